@@ -1,0 +1,4 @@
+pub mod Kind
+pub mod Wholes
+pub mod Tiers
+pub mod Total
