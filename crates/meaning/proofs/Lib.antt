@@ -1,0 +1,11 @@
+pub mod Inserting
+pub mod Truth
+pub mod Agreement
+pub mod Cheapest
+pub mod Costs
+pub mod Faith
+pub mod Sending
+pub mod Gathering
+pub mod Labelling
+pub mod Closing
+pub mod Reaching

@@ -1,0 +1,5 @@
+pub mod Answers
+pub mod Unwinding
+pub mod Accepted
+pub mod Calls
+pub mod LeastCosts

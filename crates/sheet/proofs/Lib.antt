@@ -1,0 +1,10 @@
+pub mod Cuts
+pub mod Deciding
+pub mod Rises
+pub mod Signs
+pub mod Laying
+pub mod Cursors
+pub mod Headers
+pub mod Enclosing
+pub mod Stacking
+pub mod RecordEnds

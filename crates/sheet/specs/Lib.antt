@@ -1,0 +1,9 @@
+pub mod Literals
+pub mod Rows
+pub mod Clauses
+pub mod ClauseSteps
+pub mod Records
+pub mod RecordSteps
+pub mod Sheets
+pub mod Together
+pub mod Refusals
