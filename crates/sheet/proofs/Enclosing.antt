@@ -22,8 +22,8 @@ module _ (s : List ℕ) (at count : ℕ) (fits : at + 1 + count ≤ length s) wh
       let long = length-set s at h in
       take-parts (set s at h) at end (omega arith)
       ∙ ap₂ (λ (front back : List ℕ). front ++ back) (take-set s at h)
-        (between-cons (set s at h) at end 0 (omega arith) (omega arith)
-        ∙ ap₂ (λ (x : ℕ) (back : List ℕ). x ∷ back) (getD-set-same s at h 0 (omega arith)) (ap (take (end - (at + 1))) (drop-set-lt (at + 1) s at h (omega arith))))
+      (between-cons (set s at h) at end 0 (omega arith) (omega arith)
+      ∙ ap₂ (λ (x : ℕ) (back : List ℕ). x ∷ back) (getD-set-same s at h 0 (omega arith)) (ap (take (end - (at + 1))) (drop-set-lt (at + 1) s at h (omega arith))))
 
   module _ (t : Tag) where
     header : kindOf t * 4096 + count ≡ kindOf t * 4096 + length lits

@@ -3,22 +3,14 @@ use mathlib.Core.Path.{_≡_, sym, ap, subst, _∙_}
 use mathlib.Core.List.{List, _++_, append-assoc}
 use Prim.Native.Nat.{ℕ, _+_, _-_, _*_, _/_, _%_, _<_, _≤_}
 use native.Mathlib.Omega.{arith}
-use lib.ListN.{length, getD, take, drop}
-use Rattle.std.specs.shelf.Lists.{between}
-use Rattle.std.proofs.shelf.Lists.{take-more, take-take, take-append-drop, length-take-le, getD-take}
-use Rattle.std.proofs.shelf.Parts.{between-is}
+use lib.ListN.{length, getD, take}
+use Rattle.std.proofs.shelf.Lists.{take-more, length-take-le, getD-take}
 use Rattle.std.proofs.shelf.Edits.{length-between}
 use Rattle.sheet.specs.declared.«record».Filed.{Filed}
 use Rattle.sheet.specs.Records.{recordWords, records, Stacked}
 use Rattle.sheet.specs.RecordSteps.{filed, Ends}
+use Rattle.sheet.proofs.Cuts.{take-parts}
 use Rattle.sheet.proofs.Stacking.{records-append, stacked-append, stacked-last, stacked-front, stacked-room}
-
--- a mark parts the words in use
-take-parts : (s : List ℕ) (i n : ℕ) → i ≤ n → take n s ≡ take i s ++ between i n s
-take-parts s i n le =
-    sym (take-append-drop i (take n s))
-    ∙ ap (λ z. z ++ drop i (take n s)) (take-take i n s le)
-    ∙ ap (λ z. take i s ++ z) (sym (between-is s i n))
 
 module _ (s : List ℕ) (n : ℕ) (fits : n ≤ length s) where
   -- no record ends with a word that counts more literals than there is room for

@@ -1,4 +1,4 @@
-// Literals as words.
+// Literals as 16-bit words, as clauses and records hold them.
 ghost use mathlib.Core.Path.{_≡_};
 ghost use Rattle.sheet.specs.Literals.{has};
 

@@ -8,6 +8,9 @@ ghost use Rattle.sheet.specs.RecordSteps.{Ends, Newest, filed};
 use crate::clause::is_normal;
 use crate::literal::has_literal;
 
+// A trailer is its code times this, and its count, which is below it.
+const COUNT_LIMIT: u16 = 4096;
+
 // Where a record lies: its literals are the words from `from` up to `to`, the witness stands at `to`, and the trailer behind it.
 #[derive(Clone, Copy)]
 pub struct Filed {
@@ -25,9 +28,9 @@ fn last_record(stack: &[u16], end: usize) -> Option<Filed>
 {
     let to = end.checked_sub(2)?;
     let trailer = stack[to + 1];
-    let from = to.checked_sub((trailer % 4096) as usize)?;
+    let from = to.checked_sub((trailer % COUNT_LIMIT) as usize)?;
     Some(Filed {
-        code: trailer / 4096,
+        code: trailer / COUNT_LIMIT,
         from,
         to,
         witness: stack[to],
@@ -44,7 +47,7 @@ pub fn newest(stack: &[u16], fill: usize) -> Filed
     last_record(stack, fill).unwrap()
 }
 
-// Whether a record that was read so follows the layout.
+// Whether the record that lies at `last` follows the layout.
 fn is_valid(stack: &[u16], last: Filed) -> bool
     requires order { ⌜ last .from ≤ last .to ⌝ }
     requires fits { ⌜ last .to ≤ length (now stack) ⌝ }

@@ -28,6 +28,7 @@ pub enum Refusal {
 }
 
 impl Refusal {
+    // The refusal's number in the table.
     pub fn number(&self) -> u8
         ensures { λ r. ⌜ r ≡ told (now (self .entry)) .0 ⌝ }
     {

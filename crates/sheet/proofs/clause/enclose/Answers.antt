@@ -22,10 +22,10 @@ returns-in-Soft c =
     record {
       end = ap (λ k. at + 1 + n + k) (sym one);
       words =
-        ap (λ x. take (at + 1 + n + 1) (set x (at + 1 + n) o)) (c .write-header .ensures)
-        ∙ ap (λ t. take (at + 1 + n + 1) (set (set s at (kindOf t * 4096 + n)) (at + 1 + n) o)) is
-        ∙ enclosed-soft s at n (omega arith) o (omega arith)
-        ∙ ap (λ t. take at s ++ clauseWords (record { tag = t; lits = between (at + 1) (at + 1 + n) s })) (sym is);
+          ap (λ x. take (at + 1 + n + 1) (set x (at + 1 + n) o)) (c .write-header .ensures)
+          ∙ ap (λ t. take (at + 1 + n + 1) (set (set s at (kindOf t * 4096 + n)) (at + 1 + n) o)) is
+          ∙ enclosed-soft s at n (omega arith) o (omega arith)
+          ∙ ap (λ t. take at s ++ clauseWords (record { tag = t; lits = between (at + 1) (at + 1 + n) s })) (sym is);
     }
 
 pub returns-in-Hard : need.returns-in-Hard

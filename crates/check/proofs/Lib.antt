@@ -1,0 +1,4 @@
+pub mod Passing
+pub mod Clausewise
+pub mod Reading
+pub mod Noting

@@ -1,0 +1,3 @@
+pub mod Standing
+pub mod Noted
+pub mod Parts

@@ -1,0 +1,5 @@
+pub mod Fresh
+pub mod Storing
+pub mod Accepting
+pub mod Reaching
+pub mod Closes

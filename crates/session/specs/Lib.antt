@@ -1,0 +1,4 @@
+pub mod Refusing
+pub mod Opening
+pub mod Adding
+pub mod Closing
