@@ -4,6 +4,7 @@ use mathlib.Core.List.{List, [], _∷_, _++_}
 use mathlib.Core.Bool.{Bool, true, false, cond, _||_}
 use mathlib.Core.Logic.{inl, inr}
 use Prim.Native.Nat.{ℕ, suc, _+_, _<_, _≤_}
+use native.Mathlib.Nat.{add-zero}
 use native.Mathlib.Omega.{arith}
 use lib.Dec.{leb}
 use lib.IntN.{ℤ}
@@ -34,7 +35,7 @@ use Rattle.sending.proofs.Refusing.{none-bad}
 use Rattle.session.specs.declared.claim.Claim.{Claim}
 use Rattle.session.specs.declared.claim.Claim.the-variants.{Hard, Soft}
 use Rattle.session.specs.Refusing.{orElse}
-use Rattle.session.specs.Adding.{accepted, softCause, wordsCause, storedClause, addCause, writtenWeights, Stored, Taken, AddAnswered}
+use Rattle.session.specs.Adding.{accepted, softCause, wordsCause, storedClause, addCause, writtenWeights, writtenSofts, Stored, Taken, AddAnswered}
 use Rattle.session.proofs.Storing.{laid-push, decoded-hard, decoded-soft}
 
 some-none : {X : Type 0} (x : X) → Some x ≡ None → ⊥
@@ -105,6 +106,8 @@ module _ {W : Type 0} (m : Ghosts W) (b : Lent W) (zs : List ℤ) (together : Ho
     words = sym (append-nil (take (b .marks .sheet) (b .sheet))) ∙ ap (λ t. take (b .marks .sheet) (b .sheet) ++ cond t [] (clauseWords (storedClause b zs claim))) (sym both);
     laid = together .sheet .laid;
     weights = ap (λ t. cond t (b .weights) (writtenWeights b claim)) (sym both);
+    marks = ap (λ n. record { sheet = n; stack = b .marks .stack }) (sym (add-zero (b .marks .sheet)) ∙ ap (λ t. b .marks .sheet + length (cond t [] (clauseWords (storedClause b zs claim)))) (sym both));
+    counts = ap (λ n. record { callers = b .counts .callers; items = b .counts .items; softs = n }) (sym (add-zero (b .counts .softs)) ∙ ap (λ t. b .counts .softs + cond t 0 (writtenSofts claim)) (sym both));
   }
 
   module _ (few : b .counts .callers ≤ 2000) (plain : tautology (normal zs) ≡ false) (sheet : List ℕ) (end : ℕ) where
@@ -127,6 +130,8 @@ module _ {W : Type 0} (m : Ghosts W) (b : Lent W) (zs : List ℤ) (together : Ho
           words = written .2 ∙ ap (λ t. take (b .marks .sheet) (b .sheet) ++ cond t [] (clauseWords (storedClause b zs Hard))) (sym plain);
           laid = rw (written .2) (laid-push (take (b .marks .sheet) (b .sheet)) (storedClause b zs Hard) (together .sheet .laid) valid);
           weights = ap (λ t. cond t (b .weights) (b .weights)) (sym plain);
+          marks = ap (λ n. record { sheet = n; stack = b .marks .stack }) (written .1 ∙ ap (λ t. b .marks .sheet + length (cond t [] (clauseWords (storedClause b zs Hard)))) (sym plain));
+          counts = ap (λ n. record { callers = b .counts .callers; items = b .counts .items; softs = n }) (sym (add-zero (b .counts .softs)) ∙ ap (λ t. b .counts .softs + cond t 0 0) (sym plain));
         }
 
     pub taken-soft : (w : W) → softCause m (b .counts .softs) (b .weights) (Soft w) ≡ None → b .counts .softs < length (b .weights) → Written (Soft w)
@@ -140,6 +145,8 @@ module _ {W : Type 0} (m : Ghosts W) (b : Lent W) (zs : List ℤ) (together : Ho
           words = written .2 ∙ ap (λ t. take (b .marks .sheet) (b .sheet) ++ cond t [] (clauseWords (storedClause b zs (Soft w)))) (sym plain);
           laid = rw (written .2) (laid-push (take (b .marks .sheet) (b .sheet)) (storedClause b zs (Soft w)) (together .sheet .laid) valid);
           weights = ap (λ t. cond t (b .weights) (set (b .weights) (b .counts .softs) w)) (sym plain);
+          marks = ap (λ n. record { sheet = n; stack = b .marks .stack }) (written .1 ∙ ap (λ t. b .marks .sheet + length (cond t [] (clauseWords (storedClause b zs (Soft w))))) (sym plain));
+          counts = ap (λ t. record { callers = b .counts .callers; items = b .counts .items; softs = b .counts .softs + cond t 0 1 }) (sym plain);
         }
 
 -- a soft that finds a place and keeps the total within the ceiling

@@ -78,7 +78,8 @@ module _ {W : Type 0} (m : Ghosts W) (b : Lent W) (together : HoldsTogether m ga
     laid = laid;
     shorter = shrinks;
     behind = rest;
-    items = sym (length-take-le items row held) ∙ ap length labels;
+    counts = ap (λ n. record { callers = b .counts .callers; items = n; softs = b .counts .softs }) (sym (length-take-le items row held) ∙ ap length labels);
+    stack = refl;
   }
 
 module _ {W : Type 0} (m : Ghosts W) (laws : Lawful (m .kind)) (b : Lent W) (left : Marks → Counts → Lent W) where

@@ -63,6 +63,11 @@ abbrev pub writtenWeights : {W : Type 0} → Lent W → Claim W → List W
 writtenWeights b Hard = b .weights
 writtenWeights b (Soft w) = set (b .weights) (b .counts .softs) w
 
+-- how many weights are written
+abbrev pub writtenSofts : {W : Type 0} → Claim W → ℕ
+writtenSofts Hard = 0
+writtenSofts (Soft w) = 1
+
 -- An add that passes, from the buffers b to the buffers c.
 pub record Taken {W : Type 0} (m : Ghosts W) (zs : List ℤ) (claim : Claim W) (b c : Lent W) : Type 0 where
   pub together : HoldsTogether m Gathering b
@@ -71,6 +76,8 @@ pub record Taken {W : Type 0} (m : Ghosts W) (zs : List ℤ) (claim : Claim W) (
   pub words : take (c .marks .sheet) (c .sheet) ≡ take (b .marks .sheet) (b .sheet) ++ writtenWords b zs claim
   pub laid : Laid (take (c .marks .sheet) (c .sheet))
   pub weights : c .weights ≡ cond (tautology (normal zs)) (b .weights) (writtenWeights b claim)
+  pub marks : c .marks ≡ record { sheet = b .marks .sheet + length (writtenWords b zs claim); stack = b .marks .stack }
+  pub counts : c .counts ≡ record { callers = b .counts .callers; items = b .counts .items; softs = b .counts .softs + cond (tautology (normal zs)) 0 (writtenSofts claim) }
 
 abbrev pub AddAnswered : {W : Type 0} (m : Ghosts W) → List ℤ → Claim W → Lent W → Lent W → Result Unit Refusal → Type 0
 AddAnswered m zs claim b c (Ok done) = Taken m zs claim b c

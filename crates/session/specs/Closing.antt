@@ -43,7 +43,8 @@ pub record Labelled {W : Type 0} (m : Ghosts W) (b c : Lent W) : Type 0 where
   pub shorter : c .marks .sheet ≤ b .marks .sheet
   -- row records behind the items are as they were
   pub behind : drop (c .counts .items) (c .row) ≡ drop (c .counts .items) (b .row)
-  pub items : c .counts .items ≡ itemsNeeded m b
+  pub counts : c .counts ≡ record { callers = b .counts .callers; items = itemsNeeded m b; softs = b .counts .softs }
+  pub stack : c .marks .stack ≡ b .marks .stack
 
 -- the buffers as a state has them
 abbrev pub gatheredBy : {W : Type 0} → (Marks → Counts → Lent W) → Gathering → Lent W
