@@ -2,15 +2,12 @@
 use mathlib.Core.Path.{_≡_, refl, ap, ap₂}
 use mathlib.Core.List.{List, [], _∷_}
 use mathlib.Core.Bool.{Bool, true, not, cond, _&&_, _||_}
-use mathlib.Core.Logic.{inl, inr}
-use Prim.Native.Nat.{ℕ, zero, suc, _+_, _<_}
+use Prim.Native.Nat.{ℕ, suc, _+_, _<_}
 use native.Mathlib.Omega.{arith}
 use lib.IntN.{ℤ, pos, negsuc}
 use lib.ListN.{length, getD}
 use Rattle.std.specs.shelf.Lists.{All}
 use Rattle.std.proofs.shelf.Elements.{all-weaker}
-use Rattle.std.proofs.shelf.Lists.{getD-past}
-use Rattle.std.proofs.shelf.Tests.{both-ways, cases-lt}
 use Rattle.weight.specs.Kind.{Kind}
 use Rattle.sheet.specs.Literals.{Literal, itemOf, denied}
 use Rattle.sheet.specs.declared.row.Item.{Item}
@@ -21,6 +18,7 @@ use Rattle.sheet.specs.Clauses.{Clause}
 use Rattle.meaning.specs.Answers.{Values, met, keptAs, meetsAll, weightOf, charge, rowCost, owed, softCost}
 use Rattle.meaning.specs.Unwinding.{reset}
 use Rattle.meaning.specs.Accepted.{Accepted, must, wish, sentOf, sentItem, sentTrue, sentMet, keepsHard, planCost}
+use Rattle.meaning.proofs.Places.{item-inside}
 
 -- on the items below n
 abbrev pub Below : ℕ → Values → Values → Type 0
@@ -72,14 +70,6 @@ module _ {V : Type 0} (k : Kind V) where
 pub reset-live : (row : List Item) (v : Values) (i : ℕ) → liveAt row i ≡ true → reset row v i ≡ v i
 reset-live row v i live = ap (λ b. b && v i) live
 
--- a place past the row is not live
-live-inside : (row : List Item) (i : ℕ) → liveAt row i ≡ true → i < suc (length row)
-live-inside row zero live = omega arith
-live-inside row (suc i) live = elim (cases-lt i (length row)) [
-  | inl inside ↦ omega arith
-  | inr past ↦ absurd (both-ways (liveAt row (suc i)) (ap (λ x. isLive (x .standing)) (getD-past row i absent past)) live)
-]
-
 module _ {V : Type 0} (k : Kind V) where
   charge-alike : (w : V) (x : Standing) (a b : Bool) → (isLive x ≡ true → a ≡ b) → charge k w x a ≡ charge k w x b
   charge-alike w Plain a b same = refl
@@ -99,4 +89,4 @@ module _ {V : Type 0} (k : Kind V) where
   row-alike weights u v row same = row-from-alike weights u v 1 row (λ j m at live. let next : m ≡ suc j = omega arith in rw next (same (suc j) live))
 
   pub row-below : (weights : List V) (u v : Values) (row : List Item) → Below (suc (length row)) u v → rowCost k weights u 1 row ≡ rowCost k weights v 1 row
-  row-below weights u v row same = row-alike weights u v row (λ i live. same i (live-inside row i live))
+  row-below weights u v row same = row-alike weights u v row (λ i live. same i (omega (arith, item-inside isLive refl row i live)))

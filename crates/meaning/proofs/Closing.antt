@@ -3,11 +3,13 @@ use mathlib.Core.Path.{_≡_, refl, sym, ap, ap₂, _∙_}
 use mathlib.Core.List.{List, [], _∷_, _++_}
 use mathlib.Core.Bool.{Bool, true, false, not, cond, _&&_, _||_, and-true, or-not-self, not-or-self, Bool·not-not}
 use Prim.Native.Nat.{ℕ, zero, suc, _+_, _-_, _≤_, _<_}
+use native.Mathlib.Nat.{zero-add}
 use native.Mathlib.Omega.{arith}
 use lib.ListN.{length, set, replicate}
 use Rattle.std.specs.shelf.Lists.{All}
-use Rattle.std.proofs.shelf.Counted.{length-counting}
-use Rattle.std.proofs.shelf.Elements.{all-weaker}
+use Rattle.std.specs.Iters.{counting}
+use Rattle.std.proofs.shelf.Counted.{length-counting, getD-counting}
+use Rattle.std.proofs.shelf.Elements.{all-getD, all-weaker}
 use Rattle.std.proofs.shelf.Lists.{length-set, length-push, getD-replicate}
 use Rattle.std.proofs.shelf.Tests.{both-ways, and-parts, and-from}
 use Rattle.weight.specs.Kind.{Kind, Lawful}
@@ -30,6 +32,8 @@ use Rattle.meaning.proofs.Cheapest.{put, put-here, put-other}
 use Rattle.meaning.proofs.Costs.{working-free, row-push, row-set-unlabelled}
 use Rattle.meaning.proofs.Faith.{unstacked-faithful}
 use Rattle.meaning.proofs.Gathering.{Gathered, sent-live, row-live, row-length, gathered-cost}
+use Rattle.meaning.proofs.Allotting.{closed-labels}
+use Rattle.meaning.proofs.Ordinals.{AllLabelled}
 use Rattle.meaning.proofs.Labelling.{lends, rowBehind, madeOf, closed-working, Waiting, unlabelled, waiting-behind, waiting-end}
 
 module _ {V : Type 0} (k : Kind V) (weights : List V) where
@@ -193,3 +197,9 @@ module _ {V : Type 0} {k : Kind V} (laws : Lawful k) (acc : List (Accepted V)) (
       (sym (g .meets v) ∙ back .0, rw (closed-cost v, ← gathered-cost laws acc s g v) (back .1)))
       (λ p plan. let forth = close-forth laws (s .weights) (s .clauses) (s .callers) p (s .row) (s .clauses) waiting (g .meets p ∙ plan) in
       (forth .0, forth .2, rw (closed-cost (forth .0), forth .3, gathered-cost laws acc s g p) (order-refl laws (planCost k acc p))))
+
+  pub closed-labelled : AllLabelled (closed s)
+  closed-labelled o inside =
+      let n : ℕ = length (s .weights) in
+      let each = rw (g .numbered) at (closed-labels (s .clauses) (s .callers) (s .row) (s .clauses) waiting) in
+      rw (getD-counting 0 n o 0 inside, zero-add o) at (all-getD _ (counting 0 n) o 0 (rw (length-counting 0 n) inside) each)

@@ -17,7 +17,7 @@ use Rattle.sheet.specs.declared.clause.Tag.{Tag}
 use Rattle.sheet.specs.declared.clause.Tag.the-variants.{Hard, Soft, Working}
 use Rattle.sheet.specs.Rows.{isLabel, absent, itemAt, labelAt}
 use Rattle.sheet.specs.Clauses.{Clause, ordinalOf, softOrdinals}
-use Rattle.meaning.specs.Answers.{Values, met, weightOf, charge, rowCost, owed, softCost}
+use Rattle.meaning.specs.Answers.{Values, met, weightOf, charge, rowCost, owed, softCost, AtMost}
 use Rattle.meaning.specs.Accepted.{Accepted, must, wish, sentMet, planCost}
 
 -- what an item of the row costs, if it is item i
@@ -25,6 +25,9 @@ abbrev pub charged : {V : Type 0} → Kind V → List V → Values → Item → 
 charged k weights v x i = charge k (weightOf k weights (x .ordinal)) (x .standing) (v i)
 
 module _ {V : Type 0} {k : Kind V} (laws : Lawful k) where
+  pub sum-both : {a b c d : V} → AtMost k a b → AtMost k c d → AtMost k (k .sum a c) (k .sum b d)
+  sum-both {a} {b} {c} {d} one other = laws .trans _ _ _ (laws .sum-keeps a b c one) (rw (laws .sum-comm b c, laws .sum-comm b d) (laws .sum-keeps c d b other))
+
   -- Clauses.
 
   pub plans-append : (p : Values) (xs ys : List (Accepted V)) → planCost k (xs ++ ys) p ≡ k .sum (planCost k xs p) (planCost k ys p)

@@ -15,9 +15,10 @@ use Rattle.sheet.specs.Sheets.{Sheet}
 use Rattle.meaning.specs.Answers.{Values, meetsAll, Answer, cost, AtMost}
 use Rattle.meaning.specs.Unwinding.{reset, planOf}
 use Rattle.meaning.specs.Accepted.{Accepted, sentOf, sentItem, Plan, planCost, keepsHard}
-use Rattle.meaning.specs.LeastCosts.{Answers-unwind, Plans-answered, Least-costs-agree, Faithful}
+use Rattle.meaning.specs.LeastCosts.{Answers-unwind, Plans-answered, Least-costs-agree, Unwound-pays-no-more, Faithful}
 use Rattle.meaning.proofs.Agreement.{meets-alike, softs-alike, plans-alike, reset-live, row-below}
 use Rattle.meaning.proofs.Cheapest.{Cheapest, cheapest}
+use Rattle.meaning.proofs.Paying.{unstacked-pays}
 
 everywhere : {X : Type 0} (P : X → Type 0) → ((x : X) → P x) → (xs : List X) → All P xs
 everywhere P holds xs = all-from-every P xs (λ k d low high. holds (getD xs k d))
@@ -51,8 +52,8 @@ module _ {V : Type 0} {k : Kind V} (laws : Lawful k) where
           })
     ]
 
-    pub faithful : Faithful k acc s
-    faithful = record { answers-unwind = back; plans-answered = forth; least-costs-agree = least-costs }
+    pub faithful : Unwound-pays-no-more k acc s → Faithful k acc s
+    faithful pays = record { answers-unwind = back; plans-answered = forth; least-costs-agree = least-costs; unwound-pays-no-more = pays }
 
   -- Where nothing is stacked and every item sent is live, an answer is its own plan.
   module _ (acc : List (Accepted V)) (s : Sheet V) (empty : s .stack ≡ []) (live : All (λ a. All (λ z. liveAt (s .row) (sentItem z) ≡ true) (sentOf a)) acc) where
@@ -60,4 +61,4 @@ module _ {V : Type 0} {k : Kind V} (laws : Lawful k) where
     own-plan v = rw empty (plans-alike k (reset (s .row) v) v acc (all-weaker _ _ (λ a. all-weaker _ _ (λ z. reset-live (s .row) v (sentItem z)) (sentOf a)) acc live))
 
     pub unstacked-faithful : ((v : Values) → Answer s v → Plan acc v × AtMost k (planCost k acc v) (cost k s v)) → Plans-answered k acc s → Faithful k acc s
-    unstacked-faithful back forth = faithful acc s (λ v answer. let own = own-plan v in let b = back v answer in (own .0 ∙ b .0, rw (own .1) (b .1))) forth
+    unstacked-faithful back forth = faithful acc s (λ v answer. let own = own-plan v in let b = back v answer in (own .0 ∙ b .0, rw (own .1) (b .1))) forth (λ v answer. unstacked-pays laws s empty v)

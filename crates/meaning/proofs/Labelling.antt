@@ -2,23 +2,24 @@
 use mathlib.Core.Path.{_≡_, refl, ap, _∙_}
 use mathlib.Core.List.{List, [], _∷_, _++_}
 use mathlib.Core.Bool.{Bool, true, false, not, cond, _&&_, or-false}
-use mathlib.Core.Logic.{inl, inr, _≢_}
-use Prim.Native.Nat.{ℕ, zero, suc, _+_, _-_, _≤_, _<_}
+use mathlib.Core.Logic.{inl, inr}
+use Prim.Native.Nat.{ℕ, suc, _+_, _-_, _≤_, _<_}
 use native.Mathlib.Omega.{arith}
 use lib.Dec.{eqb}
 use lib.ListN.{length, set}
 use Rattle.std.specs.shelf.Lists.{All}
 use Rattle.std.proofs.shelf.Elements.{all-append, all-set, all-push}
-use Rattle.std.proofs.shelf.Lists.{length-set, length-push, getD-set-other, getD-append-left}
+use Rattle.std.proofs.shelf.Lists.{length-set, length-push}
 use Rattle.std.proofs.shelf.Tests.{both-ways, cases-bool, cases-eq, eqb-true, eq-eqb, or-left, and-parts, cond-both}
 use Rattle.sheet.specs.Literals.{Literal, itemOf, denied}
 use Rattle.sheet.specs.declared.row.Item.{Item}
-use Rattle.sheet.specs.Rows.{absent, itemAt, labelAt}
+use Rattle.sheet.specs.Rows.{labelAt}
 use Rattle.sheet.specs.declared.clause.Tag.{Tag}
 use Rattle.sheet.specs.declared.clause.Tag.the-variants.{Hard, Soft, Working}
 use Rattle.sheet.specs.Clauses.{Clause, softOrdinals}
 use Rattle.meaning.specs.Answers.{Values, isTrue, met}
 use Rattle.meaning.specs.Calls.{labelItem, insert, names, softsNaming, inHard, lendsItem, onlyItem, labelledRow, workingClause, closedRow, closedClauses}
+use Rattle.meaning.proofs.Places.{set-other, push-before}
 use Rattle.meaning.proofs.Gathering.{Live}
 
 -- What is known of a soft that lends its item.
@@ -39,14 +40,6 @@ lends all (w ∷ []) is =
       met-unless = λ v. or-false (isTrue v w) ∙ ap (λ b. cond b (not (v (itemOf w))) (v (itemOf w))) (parts .0);
     }
 lends all (w ∷ x ∷ ws) is = absurd (both-ways false refl is)
-
-set-other : (row : List Item) (n m : ℕ) (x : Item) → 1 ≤ n → (m ≡ n → ⊥) → itemAt (set row (n - 1) x) m ≡ itemAt row m
-set-other row n zero x low other = refl
-set-other row n (suc i) x low other = let apart : i ≢ n - 1 = omega arith in getD-set-other row (n - 1) i x absent apart
-
-push-before : (row : List Item) (x : Item) (m : ℕ) → m ≤ length row → itemAt (row ++ (x ∷ [])) m ≡ itemAt row m
-push-before row x zero inside = refl
-push-before row x (suc i) inside = getD-append-left row (x ∷ []) absent i inside
 
 one-at-most : (b : Bool) → cond {A = ℕ} b 1 0 ≤ 1
 one-at-most b = cond-both {A = ℕ} b 1 0 (λ x. x ≤ 1) (λ is. omega arith) (λ is. omega arith)

@@ -12,6 +12,7 @@ use Rattle.sheet.specs.declared.row.Standing.the-variants.{Plain, Label, Fixed,
 use Rattle.sheet.specs.declared.clause.Tag.{Tag}
 use Rattle.sheet.specs.declared.clause.Tag.the-variants.{Hard, Soft, Working}
 use Rattle.sheet.specs.Clauses.{Clause}
+use Rattle.sheet.specs.Rows.{isLabel}
 use Rattle.sheet.specs.Sheets.{Sheet}
 
 -- yes or no for each item
@@ -70,6 +71,11 @@ module _ {V : Type 0} (k : Kind V) where
   -- The labels charged, and the softs broken: a gathering sheet has no labels yet, and a working sheet no softs any more.
   abbrev pub cost : Sheet V → Values → V
   cost s v = k .sum (rowCost (s .weights) v 1 (s .row)) (softCost (s .weights) v (s .clauses))
+
+  -- the labels that are yes, live or retired, of a row whose first item is item i
+  abbrev pub paidCost : List V → Values → ℕ → List Item → V
+  paidCost weights v i [] = k .zero
+  paidCost weights v i (x ∷ xs) = k .sum (cond (isLabel (x .standing) && v i) (weightOf weights (x .ordinal)) (k .zero)) (paidCost weights v (suc i) xs)
 
   abbrev pub AtMost : V → V → Type 0
   AtMost x y = k .atMost x y ≡ true

@@ -16,6 +16,7 @@ use Rattle.sheet.specs.declared.clause.Tag.the-variants.{Hard, Soft, Working}
 use Rattle.sheet.specs.Clauses.{Clause}
 use Rattle.sheet.specs.Sheets.{Sheet}
 use Rattle.meaning.specs.Accepted.{Accepted, must, wish, sentOf, sentItem}
+use Rattle.meaning.specs.Running.{Meaning}
 
 -- Open.
 
@@ -128,13 +129,16 @@ closedClauses all row (c ∷ cs) = workingClause all (c .tag) (c .lits) row ++ c
 abbrev pub closed : {V : Type 0} → Sheet V → Sheet V
 closed s = record { callers = s .callers; row = closedRow (s .clauses) (s .row) (s .clauses); clauses = closedClauses (s .clauses) (s .row) (s .clauses); stack = s .stack; weights = s .weights }
 
--- Lists of calls. A refused call changes nothing, so only those that pass are told.
+-- Lists of calls. A refused call and an unwind change nothing, so only the others that pass are told.
 
 pub data Stage : Type 0 where
-  gathering working : Stage
+  gathering working delivered : Stage
 
--- the sheet that calls reach from a new one, with the clauses they accepted
+-- the sheet that calls reach from a new one, with the clauses they accepted; a run is any that keeps the meaning, whatever rules made it
 pub data Reached {V : Type 0} (k : Kind V) : Stage → List (Accepted V) → Sheet V → Type 0 where
   by-open : {n : ℕ} {s : Sheet V} → n ≤ 2000 → s ≡ opened n → Reached k gathering [] s
   by-add : {acc : List (Accepted V)} {a : Accepted V} {s t : Sheet V} → Reached k gathering acc s → Added k a s t → Reached k gathering (acc ++ (a ∷ [])) t
   by-close : {acc : List (Accepted V)} {s t : Sheet V} → Reached k gathering acc s → t ≡ closed s → Reached k working acc t
+  by-run : {acc : List (Accepted V)} {s t : Sheet V} → Reached k working acc s → Meaning k s t → Reached k working acc t
+  by-deliver : {acc : List (Accepted V)} {s : Sheet V} → Reached k working acc s → Reached k delivered acc s
+  by-settle : {acc : List (Accepted V)} {s : Sheet V} → Reached k delivered acc s → Reached k working acc s

@@ -4,7 +4,7 @@ use mathlib.Core.List.{List}
 use mathlib.Core.Logic.{_⊎_}
 use Rattle.weight.specs.Kind.{Kind}
 use Rattle.sheet.specs.Sheets.{Sheet}
-use Rattle.meaning.specs.Answers.{Values, Answer, cost, AtMost}
+use Rattle.meaning.specs.Answers.{Values, Answer, cost, paidCost, AtMost}
 use Rattle.meaning.specs.Unwinding.{planOf}
 use Rattle.meaning.specs.Accepted.{Accepted, Plan, planCost}
 use Rattle.meaning.specs.Calls.{Stage, Reached}
@@ -31,10 +31,15 @@ module _ {V : Type 0} (k : Kind V) (acc : List (Accepted V)) (s : Sheet V) where
   abbrev pub Least-costs-agree : Type 0
   Least-costs-agree = (((v : Values) → Answer s v → ⊥) × ((p : Values) → Plan acc p → ⊥)) ⊎ SameLeast
 
+  -- The labels that are paid once an answer is unwound cost no more than the answer.
+  abbrev pub Unwound-pays-no-more : Type 0
+  Unwound-pays-no-more = (v : Values) → Answer s v → AtMost k (paidCost k (s .weights) (planOf s v) 1 (s .row)) (cost k s v)
+
   pub record Faithful : Type 0 where
     pub answers-unwind : Answers-unwind
     pub plans-answered : Plans-answered
     pub least-costs-agree : Least-costs-agree
+    pub unwound-pays-no-more : Unwound-pays-no-more
 
 -- Every sheet that calls reach is faithful to the clauses that they accepted.
 abbrev pub Calls-stay-faithful : {V : Type 0} → Kind V → Type 0

@@ -18,3 +18,12 @@ pub struct Gathering {
     ghost kept: { counts .softs ≤ 2000 },
     ghost empty: { marks .stack ≡ 0 },
 }
+
+impl Gathering {
+    // How many words of the sheet are in use.
+    pub fn words(&self) -> usize
+        ensures { λ r. ⌜ r ≡ now (self .entry) .marks .sheet ⌝ }
+    {
+        self.marks.sheet
+    }
+}

@@ -16,4 +16,18 @@ impl Working {
     {
         Working { marks, counts }
     }
+
+    // How many words of the sheet are in use.
+    pub fn words(&self) -> usize
+        ensures { λ r. ⌜ r ≡ now (self .entry) .marks .sheet ⌝ }
+    {
+        self.marks.sheet
+    }
+
+    // How many items there are, with the labels.
+    pub fn items(&self) -> usize
+        ensures { λ r. ⌜ r ≡ now (self .entry) .counts .items ⌝ }
+    {
+        self.counts.items
+    }
 }
