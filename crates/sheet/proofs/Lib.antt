@@ -6,5 +6,6 @@ pub mod Laying
 pub mod Cursors
 pub mod Headers
 pub mod Enclosing
+pub mod Counting
 pub mod Stacking
 pub mod RecordEnds
