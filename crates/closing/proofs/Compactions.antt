@@ -1,13 +1,13 @@
 -- The compaction: a cursor that reads, and a mark behind it up to which the kept clauses lie. Assumes nothing.
 use mathlib.Core.Path.{_≡_, refl, sym, ap, _∙_}
 use mathlib.Core.List.{List, [], _∷_, _++_}
-use mathlib.Core.Bool.{true, false}
+use mathlib.Core.Bool.{true}
 use Prim.Native.Nat.{ℕ, _+_, _-_, _≤_}
 use native.Mathlib.Omega.{arith}
 use lib.ListN.{take, drop}
 use Rattle.std.specs.shelf.Lists.{between}
 use Rattle.std.proofs.shelf.Lists.{append-assoc, append-nil}
-use Rattle.std.proofs.shelf.Tests.{cond-false, cond-true}
+use Rattle.std.proofs.shelf.Tests.{cond-true}
 use Rattle.sheet.specs.declared.clause.Place.{Place}
 use Rattle.sheet.specs.Clauses.{Laid, clauses}
 use Rattle.sheet.specs.ClauseSteps.{Step, placed}
@@ -40,18 +40,7 @@ compacting-none s fill laid =
 
 module _ {s : List ℕ} {fill : ℕ} {cur : List ℕ} {out at : ℕ} (h : Compacting s fill cur out at) where
   module _ {p : Place} (step : Step cur at fill p) where
-    -- a soft is passed over
-    pub compacting-soft : notSoft (placed cur p) ≡ false → Compacting s fill cur out (p .end)
-    compacting-soft soft = record {
-      low = omega (arith, h .low, step .from, step .order, step .inside);
-      high = step .fits;
-      front = h .front;
-      ahead = step .rest;
-      kept = ap (λ cs. clauses (take out cur) ++ cs) (sym (cond-false (notSoft (placed cur p)) _ _ soft) ∙ ap withoutSofts (sym (step .here))) ∙ h .kept;
-      behind = h .behind;
-    }
-
-    -- any other clause moves down
+    -- a clause that is no soft moves down
     pub compacting-kept : notSoft (placed cur p) ≡ true → (cur′ : List ℕ) (out′ : ℕ) → out′ ≡ out + (p .end - at)
         → take out′ cur′ ≡ take out cur ++ between at (p .end) cur → drop (p .end) cur′ ≡ drop (p .end) cur → Compacting s fill cur′ out′ (p .end)
     compacting-kept keep cur′ out′ size front behind =

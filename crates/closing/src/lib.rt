@@ -6,8 +6,8 @@ ghost use Rattle.closing.specs.Labelling.{Closable, closedIn, rowIn};
 ghost use Rattle.closing.specs.Surveys.{Surveys};
 ghost use Rattle.sheet.specs.Clauses.{Laid, clauses};
 
-pub mod compact;
-pub mod label;
+mod compact;
+mod label;
 pub mod survey;
 
 use compact::drop_softs;

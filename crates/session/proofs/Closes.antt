@@ -2,6 +2,7 @@
 use mathlib.Core.Path.{_≡_, refl, sym, ap, ap₂, subst, _∙_}
 use mathlib.Core.List.{List, map}
 use mathlib.Core.Bool.{cond}
+use mathlib.Core.Logic.{inl, inr}
 use Prim.Native.Nat.{ℕ, _<_, _≤_}
 use native.Mathlib.Omega.{arith}
 use lib.Dec.{leb}
@@ -12,7 +13,7 @@ use Rattle.std.specs.declared.result.Result.{Result}
 use Rattle.std.specs.declared.result.Result.the-variants.{Ok, Err}
 use Rattle.std.proofs.shelf.Elements.{all-weaker}
 use Rattle.std.proofs.shelf.Lists.{length-take-le}
-use Rattle.std.proofs.shelf.Tests.{le-leb, lt-leb}
+use Rattle.std.proofs.shelf.Tests.{cases-bool, leb-true}
 use Rattle.weight.specs.Kind.{Lawful}
 use Rattle.weight.specs.declared.kind.Weight.{Ghosts}
 use Rattle.sheet.specs.declared.buffers.Phase.the-variants.{Gathering as gathered}
@@ -31,7 +32,10 @@ use Rattle.meaning.proofs.Reaching.{reached-faithful}
 use Rattle.closing.specs.Labelling.{Closable, Needed, Ranged, closedIn, rowIn}
 use Rattle.session.specs.declared.gathering.Gathering.{Gathering}
 use Rattle.session.specs.declared.working.Working.{Working}
-use Rattle.session.specs.Closing.{itemsNeeded, closeCause, Labelled, gatheredBy, workedBy, CloseAnswered, CloseFaithful}
+use Rattle.session.specs.Closing.{itemsNeeded, labelCause, closeCause, Labelled, gatheredBy, workedBy, CloseAnswered, CloseFaithful}
+
+some-none : {e : Refusal} → Some e ≡ None → ⊥
+some-none e = let z : _≡_ {A = ℕ} 0 1 = cc in omega arith
 
 -- a literal of few items is one of more
 wider : (n p w : ℕ) → n ≤ p → Literal n w → Literal p w
@@ -59,21 +63,22 @@ module _ {W : Type 0} (m : Ghosts W) (b : Lent W) (together : HoldsTogether m ga
     room = room;
   }
 
-  pub close-passes : itemsNeeded m b ≤ length (b .row) → closeCause m b ≡ None
-  close-passes room = ap (λ t. cond t None (Some (NoRowForLabels (itemsNeeded m b)))) (le-leb (itemsNeeded m b) (length (b .row)) room)
-
-  pub close-cause : length (b .row) < itemsNeeded m b → closeCause m b ≡ Some (NoRowForLabels (itemsNeeded m b))
-  close-cause short = ap (λ t. cond t None (Some (NoRowForLabels (itemsNeeded m b)))) (lt-leb (itemsNeeded m b) (length (b .row)) short)
+  -- a row that refuses nothing has room
+  pub room-passes : labelCause (itemsNeeded m b) (length (b .row)) ≡ None → itemsNeeded m b ≤ length (b .row)
+  room-passes none = elim (cases-bool (leb (itemsNeeded m b) (length (b .row)))) [
+    | inl fits ↦ leb-true (itemsNeeded m b) (length (b .row)) fits
+    | inr short ↦ absurd (some-none (sym (ap (λ t. cond t None (Some (NoRowForLabels (itemsNeeded m b)))) short) ∙ none))
+  ]
 
   -- the buffers once their clauses are closed
-  pub labelled : (sheet : List ℕ) (row : List Item) (fill items : ℕ) → itemsNeeded m b ≤ length (b .row) → fill ≤ b .marks .sheet → Laid (take fill sheet)
+  pub labelled : (sheet : List ℕ) (row : List Item) (fill items : ℕ) → closeCause m b ≡ None → fill ≤ b .marks .sheet → Laid (take fill sheet)
       → clauses (take fill sheet) ≡ closedIn (b .sheet) (b .marks .sheet) (b .row) (b .counts .items)
       → items ≤ length row → take items row ≡ rowIn (b .sheet) (b .marks .sheet) (b .row) (b .counts .items) → drop items row ≡ drop items (b .row)
       → Labelled m b (record { sheet = sheet; row = row; stack = b .stack; weights = b .weights; marks = record { sheet = fill; stack = b .marks .stack }; counts = record { callers = b .counts .callers; items = items; softs = b .counts .softs } })
   unfolding decoded
-  labelled sheet row fill items room shrinks laid closes held labels rest = record {
+  labelled sheet row fill items passes shrinks laid closes held labels rest = record {
     together = together;
-    passes = close-passes room;
+    passes = passes;
     after = ap₂ (λ (cs : List Clause) (r : List Item). record { callers = b .counts .callers; row = r; clauses = cs; stack = usedRecords b; weights = map (m .value) (usedWeights b) }) closes labels;
     laid = laid;
     shorter = shrinks;

@@ -29,9 +29,13 @@ use Rattle.session.specs.declared.working.Working.{Working}
 abbrev pub itemsNeeded : {W : Type 0} (m : Ghosts W) → Lent W → ℕ
 itemsNeeded m b = length (closed (decoded m b) .row)
 
+-- a row of this length has no room for the items needed
+abbrev pub labelCause : ℕ → ℕ → Option Refusal
+labelCause needed room = cond (leb needed room) None (Some (NoRowForLabels needed))
+
 -- why a close refuses where the buffers hold together
 abbrev pub closeCause : {W : Type 0} (m : Ghosts W) → Lent W → Option Refusal
-closeCause m b = cond (leb (itemsNeeded m b) (length (b .row))) None (Some (NoRowForLabels (itemsNeeded m b)))
+closeCause m b = labelCause (itemsNeeded m b) (length (b .row))
 
 -- A close that passes, from the buffers b to the buffers c.
 pub record Labelled {W : Type 0} (m : Ghosts W) (b c : Lent W) : Type 0 where

@@ -1,6 +1,7 @@
 // Close: every soft clause gets its label, and the sheet works from then on.
+ghost use mathlib.Core.Path.{_≡_};
 ghost use Rattle.sheet.specs.Sheets.{lent};
-ghost use Rattle.session.specs.Closing.{CloseAnswered, CloseFaithful};
+ghost use Rattle.session.specs.Closing.{CloseAnswered, CloseFaithful, labelCause};
 use crate::gathering::Gathering;
 use crate::working::Working;
 use check::holds_together;
@@ -11,6 +12,15 @@ use sheet::buffers::Phase;
 use sheet::refusal::Refusal;
 use sheet::row::Item;
 use weight::Weight;
+
+fn label_cause(needed: usize, room: usize) -> Option<Refusal>
+    ensures { λ r. ⌜ r ≡ labelCause needed room ⌝ }
+{
+    if needed > room {
+        return Some(Refusal::NoRowForLabels(needed));
+    }
+    None
+}
 
 impl Gathering {
     // A refused close gives the state back.
@@ -39,8 +49,8 @@ impl Gathering {
         }
         let survey = Survey::of(sheet, marks.sheet);
         let needed = survey.items_needed(sheet, marks.sheet, counts.items);
-        if needed > row.len() {
-            return Err((self, Refusal::NoRowForLabels(needed)));
+        if let Some(cause) = label_cause(needed, row.len()) {
+            return Err((self, cause));
         }
         let closed = closing::close(sheet, marks.sheet, row, counts.items, &survey);
         Ok(Working::of(

@@ -18,9 +18,6 @@ loop-at-holds c =
     let fill = c .args .fill in
     (ahead-none s fill (c .pre .laid) (c .pre .ranged), ap (λ ws. c .args .items + freshLabels (clauses (take fill s)) (clauses ws)) (between-zero s fill), omega arith)
 
-pub read-tag-requires : need.read-tag-requires
-read-tag-requires c κs = record { fits = omega arith; inside = omega arith; laid = c .loop-at .inv .0 .laid }
-
 pub fresh-items-needed-requires : need.fresh-items-needed-requires
 fresh-items-needed-requires c κs = literals-here (c .loop-at .inv .0) (c .read-tag .ensures)
 

@@ -18,9 +18,6 @@ loop-at-holds c =
       rw (between-zero s fill) (surveying-none (clauses (take fill s)) _ refl refl),
     )
 
-pub read-tag-requires : need.read-tag-requires
-read-tag-requires c κs = record { fits = omega arith; inside = omega arith; laid = c .loop-at .inv .0 .laid }
-
 pub note-requires : need.note-requires
 note-requires c κs = record {
   literals = literals-here (c .loop-at .inv .0) (c .read-tag .ensures);

@@ -1,16 +1,15 @@
 use mathlib.Core.Path.{_≡_, refl, sym, ap, subst, _∙_}
 use mathlib.Core.Logic.{inl, inr}
-use Prim.Native.Nat.{_<_, _≤_}
 use native.Mathlib.Omega.{arith}
 use lib.ListN.{length}
-use Rattle.std.specs.declared.option.Option.the-variants.{Some}
+use Rattle.std.specs.declared.option.Option.the-variants.{None}
 use Rattle.std.specs.declared.result.Result.the-variants.{Ok, Err}
 use Rattle.sheet.specs.declared.buffers.Marks.{Marks}
 use Rattle.sheet.specs.declared.buffers.Counts.{Counts}
-use Rattle.sheet.specs.declared.refusal.Refusal.the-variants.{NotTogether, NoRowForLabels}
+use Rattle.sheet.specs.declared.refusal.Refusal.the-variants.{NotTogether}
 use Rattle.sheet.specs.Sheets.{Lent, lent}
-use Rattle.session.specs.Closing.{itemsNeeded, Labelled, CloseAnswered}
-use Rattle.session.proofs.Closes.{ranged, needed-is, closable, close-cause, labelled, close-faithful}
+use Rattle.session.specs.Closing.{itemsNeeded, labelCause, Labelled, CloseAnswered}
+use Rattle.session.proofs.Closes.{ranged, needed-is, closable, room-passes, labelled, close-faithful}
 use Rattle.session.proofs.gathering.Gathering.close.Needs as need
 
 pub returns-in-Some : need.returns-in-Some
@@ -45,8 +44,8 @@ items-needed-needed-requires g c κs =
       surveyed = c .of-survey .ensures;
     }
 
-pub returns-then-needed-row : need.returns-then-needed-row
-returns-then-needed-row g c =
+pub returns-in-Some-label-cause : need.returns-in-Some-label-cause
+returns-in-Some-label-cause g c =
     let m = g .W·Weight in
     let left = lent (c .args .sheet) (c .args .row) (c .args .stack) (c .args .weights) in
     let b = left (c .args .self .marks) (c .args .self .counts) in
@@ -54,9 +53,8 @@ returns-then-needed-row g c =
     let own = c .args .self .own in
     let few = c .args .self .few in
     let needed = needed-is m b together (omega arith) (c .items-needed-needed .result) (c .items-needed-needed .ensures) in
-    let e = NoRowForLabels (c .items-needed-needed .result) in
-    let short : length (c .args .row .now) < itemsNeeded m b = omega arith in
-    let cause = close-cause m b together (omega arith) short ∙ ap (λ n. Some (NoRowForLabels n)) (sym needed) in
+    let e = c .in-Some-label-cause .cause in
+    let cause = ap (λ n. labelCause n (length (c .args .row .now))) (sym needed) ∙ sym (c .label-cause .ensures) ∙ c .in-Some-label-cause .is in
     let a : CloseAnswered m b left (Err (c .args .self, e)) = (inr (together, cause), refl) in
     record { answer = a; faithful = close-faithful m (g .W·Weight·met .lawful) b left (Err (c .args .self, e)) a }
 
@@ -68,7 +66,8 @@ close-closed-requires g c κs =
     let own = c .args .self .own in
     let few = c .args .self .few in
     let needed = needed-is m b together (omega arith) (c .items-needed-needed .result) (c .items-needed-needed .ensures) in
-    record { closable = closable m b together (omega arith) (omega arith); surveyed = c .of-survey .ensures }
+    let passes : labelCause (itemsNeeded m b) (length (c .args .row .now)) ≡ None = ap (λ n. labelCause n (length (c .args .row .now))) (sym needed) ∙ sym (c .label-cause .ensures) ∙ c .in-rest-label-cause .is in
+    record { closable = closable m b together (omega arith) (room-passes m b together (omega arith) passes); surveyed = c .of-survey .ensures }
 
 pub returns : need.returns
 returns g c =
@@ -81,8 +80,9 @@ returns g c =
     let own = c .args .self .own in
     let few = c .args .self .few in
     let needed = needed-is m b together (omega arith) (c .items-needed-needed .result) (c .items-needed-needed .ensures) in
+    let passes : labelCause (itemsNeeded m b) (length (c .args .row .now)) ≡ None = ap (λ n. labelCause n (length (c .args .row .now))) (sym needed) ∙ sym (c .label-cause .ensures) ∙ c .in-rest-label-cause .is in
     let done = c .close-closed .ensures in
     let w = c .of .result in
-    let closes = labelled m b together (omega arith) sheet row (c .close-closed .result .fill) (c .close-closed .result .items) (omega arith) (done .shrinks) (done .laid) (done .closed) (done .held) (done .row) (done .rest) in
+    let closes = labelled m b together (omega arith) sheet row (c .close-closed .result .fill) (c .close-closed .result .items) passes (done .shrinks) (done .laid) (done .closed) (done .held) (done .row) (done .rest) in
     let a : Labelled m b (left (w .marks) (w .counts)) = rw (c .of .ensures .0, c .of .ensures .1) closes in
     record { answer = a; faithful = close-faithful m (g .W·Weight·met .lawful) b left (Ok w) a }
