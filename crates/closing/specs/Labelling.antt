@@ -19,7 +19,7 @@ clauseOf tag lits = record { tag = tag; lits = lits }
 abbrev pub Ranged : ℕ → List Clause → Type 0
 Ranged n cs = All (λ c. All (Literal n) (c .lits)) cs
 
--- a soft that lends its item stays as it is for now, every other clause works
+-- a soft that lends its item is still a soft, every other clause works
 abbrev pub labelledClause : List Clause → Tag → List ℕ → List Item → Clause
 labelledClause all Hard ws row = clauseOf Working ws
 labelledClause all (Soft n) ws row = cond (lendsItem all ws) (clauseOf (Soft n) ws) (clauseOf Working (insert (suc (length row)) ws))
