@@ -46,7 +46,13 @@ fn clause_stands(phase: Phase, counts: Counts, row: &[Item], sheet: &[u16], plac
         && all_stand(phase, counts.items, row, &sheet[from..to])
 }
 
-pub fn clauses_stand(phase: Phase, counts: Counts, row: &[Item], sheet: &[u16], fill: usize) -> bool
+pub(crate) fn clauses_stand(
+    phase: Phase,
+    counts: Counts,
+    row: &[Item],
+    sheet: &[u16],
+    fill: usize,
+) -> bool
     requires fits { ⌜ fill ≤ length (now sheet) ⌝ }
     requires laid { ⌜ Laid (take fill (now sheet)) ⌝ }
     ensures { λ r. ⌜ Decides r (All (ClauseStands phase (counts .items) (counts .softs) (now (row .entry))) (clauses (take fill (now (sheet .entry))))) ⌝ }

@@ -20,7 +20,7 @@ fn is_literal(items: usize, w: u16) -> bool
     1 <= item && item <= items
 }
 
-pub fn all_literals(items: usize, lits: &[u16]) -> bool
+pub(crate) fn all_literals(items: usize, lits: &[u16]) -> bool
     ensures { λ r. ⌜ Decides r (All (Literal items) (now (lits .entry))) ⌝ }
 {
     for w in lits {
@@ -56,7 +56,7 @@ fn stands(phase: Phase, items: usize, row: &[Item], w: u16) -> bool
     item > row.len() || allows(phase, row[item - 1].standing, w)
 }
 
-pub fn all_stand(phase: Phase, items: usize, row: &[Item], lits: &[u16]) -> bool
+pub(crate) fn all_stand(phase: Phase, items: usize, row: &[Item], lits: &[u16]) -> bool
     ensures { λ r. ⌜ Decides r (All (Stands phase items (now (row .entry))) (now (lits .entry))) ⌝ }
 {
     for w in lits {

@@ -25,7 +25,7 @@ fn ordinal_fits(softs: usize, item: Item) -> bool
     }
 }
 
-pub fn ordinals_fit(softs: usize, row: &[Item]) -> bool
+pub(crate) fn ordinals_fit(softs: usize, row: &[Item]) -> bool
     ensures { λ r. ⌜ Decides r (All (λ x. OrdinalOf softs (x .standing) (x .ordinal)) (now (row .entry))) ⌝ }
 {
     for item in row {
@@ -47,7 +47,7 @@ fn note(seen: &mut [bool], n: u16) -> bool
 }
 
 // Whether the ordinals of the sheet's softs differ from each other. Where they do, the table notes them all.
-pub fn softs_apart(sheet: &[u16], fill: usize, seen: &mut [bool]) -> bool
+pub(crate) fn softs_apart(sheet: &[u16], fill: usize, seen: &mut [bool]) -> bool
     requires fits { ⌜ fill ≤ length (now sheet) ⌝ }
     requires laid { ⌜ Laid (take fill (now sheet)) ⌝ }
     requires empty { ⌜ Noted (now seen) [] ⌝ }
@@ -80,7 +80,7 @@ fn is_label(standing: Standing) -> bool
 }
 
 // Whether the labels' ordinals differ from those noted and from each other.
-pub fn labels_apart(row: &[Item], seen: &mut [bool]) -> bool
+pub(crate) fn labels_apart(row: &[Item], seen: &mut [bool]) -> bool
     requires { ⌜ length (now seen) ≡ 65536 ⌝ }
     ensures { λ r. ⌜ ((ns : List ℕ) → Noted (now (seen .entry)) ns → Distinct ns → Decides r (Distinct (ns ++ labelOrdinals (now (row .entry))))) ⌝ }
 {

@@ -9,7 +9,7 @@ use crate::literals::all_literals;
 use sheet::record::Filed;
 use sheet::record::newest;
 
-pub fn records_stand(items: usize, stack: &[u16], fill: usize) -> bool
+pub(crate) fn records_stand(items: usize, stack: &[u16], fill: usize) -> bool
     requires fits { ⌜ fill ≤ length (now stack) ⌝ }
     requires laid { ⌜ Stacked (take fill (now stack)) ⌝ }
     ensures { λ r. ⌜ Decides r (All (λ r. All (Literal items) (r .lits)) (records (take fill (now (stack .entry))))) ⌝ }
