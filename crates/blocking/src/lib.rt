@@ -1,6 +1,8 @@
 // Blocked clause elimination. A clause goes if one of its plain literals, the witness, is denied only by clauses that also deny another plain literal of
 // it: where an answer of the others leaves the clause unmet, each of those clauses is met by that other denial, so the witness can
 // be made true. The clause is recorded with its witness, and unwinding does just that.
+#![tactic(auto)]
+
 ghost use Rattle.std.specs.Prelude.{◌≡◌, ℕ, ◌+◌, ◌-◌, ◌<◌, ◌≤◌, min, List, ◌++◌, length, take, nat_le};
 ghost use Rattle.blocking.specs.Blocks.{all_block, blocked_in, blocks_in, denies, record_at};
 ghost use Rattle.marking.specs.Marks.{MarksOf};

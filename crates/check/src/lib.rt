@@ -1,4 +1,6 @@
 // Whether lent buffers hold together: every call that is lent them asks this first.
+#![tactic(auto)]
+
 ghost use Rattle.std.specs.Prelude.{◌≡◌, true, [], length, take, Decides};
 ghost use Rattle.sheet.specs.Clauses.{clauses, soft_ordinals};
 ghost use Rattle.sheet.specs.Sheets.{Fits, lent};

@@ -1,4 +1,6 @@
 // Closing a gathered sheet: each soft clause gets its label, and every clause works from then on.
+#![tactic(auto)]
+
 ghost use Rattle.std.specs.Prelude.{◌≡◌, ◌≤◌, length, take, drop};
 ghost use Rattle.closing.specs.Labelling.{Closable, closed_in, row_in};
 ghost use Rattle.closing.specs.Surveys.{Surveys};

@@ -1,5 +1,7 @@
 // Subsumed label elimination. Where another live label stands in every clause with this one and costs no more, nobody needs to pay this
 // one: whoever would can pay the other. So it leaves all clauses and is retired as unpaid, which needs no record.
+#![tactic(auto)]
+
 ghost use Rattle.std.specs.Prelude.{◌≡◌, ◌≤◌, true, [], length, take};
 ghost use Rattle.covering.specs.Labels.{NoneBelow, Weighed, seen};
 ghost use Rattle.sheet.specs.Clauses.{Laid, clauses};

@@ -1,6 +1,8 @@
 // Bounded variable elimination. A plain item leaves the sheet when its clauses are replaced by their resolvents: every way to resolve a
 // clause that has the item with one that denies it. Whatever meets the resolvents meets all clauses with one value of the item or the
 // other, and the clauses recorded with the item as witness tell which. Only items go whose resolvents are no more than their clauses.
+#![tactic(auto)]
+
 ghost use Rattle.steps.specs.Elimination.{EliminationRuns};
 
 use crate::find::first_to_go;

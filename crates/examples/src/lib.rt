@@ -1,4 +1,6 @@
 // Worked examples of what the definitions come to, as rows of one list, proved together.
+#![tactic(auto)]
+
 ghost use Rattle.std.specs.Prelude.{◌≡◌, length};
 ghost use Rattle.examples.specs.Examples.{rows, EveryRowHolds};
 

@@ -1,4 +1,6 @@
 // One morning at a garage: its bays, rules and wishes, two plans for it, and what a plan pays in each kind of weight.
+#![tactic(auto)]
+
 pub mod figures;
 mod keeping;
 pub mod kinds;

@@ -1,4 +1,6 @@
 // The literals of one clause as a table with a flag for each word, so that another clause is tested against them in one pass over its own literals.
+#![tactic(auto)]
+
 ghost use Rattle.std.specs.Prelude.{◌≡◌, ℕ, false, [], length, if◌then◌else◌, slice_index_or};
 ghost use Rattle.sheet.specs.Literals.{has as among};
 ghost use Rattle.marking.specs.Marks.{MarksOf};

@@ -1,4 +1,6 @@
 // What answers, plans and their costs are, what a run of a rule means, and that the sheets which calls reach are faithful to the accepted clauses.
+#![tactic(auto)]
+
 ghost use Rattle.meaning.specs.LeastCosts.{CallsStayFaithful};
 
 use weight::Weight;

@@ -1,5 +1,7 @@
 // The search that techniques on a clause and one of its literals share: the first clause in sheet order, and in it the lowest literal, that
 // passes a test against all the clauses. The clause is marked once, so a test reads each other clause in one pass.
+#![tactic(auto)]
+
 ghost use Rattle.std.specs.Prelude.{◌≡◌, ℕ, ◌+◌, ◌<◌, ◌≤◌, List, length, take};
 ghost use Rattle.marking.specs.Marks.{MarksOf};
 ghost use Rattle.places.specs.Asking.{Asked};

@@ -1,5 +1,7 @@
 // Unit propagation. A clause of one literal makes that literal true in every answer: clauses with it are met and go, its denial leaves
 // the others, and its item is retired. The record of the unit brings the item back when an answer is unwound.
+#![tactic(auto)]
+
 ghost use Rattle.std.specs.Prelude.{◌≡◌, ◌+◌, ◌≤◌, min, ◌++◌, length, take, nat_le};
 ghost use Rattle.sheet.specs.Clauses.{Laid, clauses};
 ghost use Rattle.sheet.specs.Literals.{item_of};

@@ -1,4 +1,6 @@
 // What several techniques do to the lent buffers: a literal is made true in all clauses, and an item is retired.
+#![tactic(auto)]
+
 ghost use Rattle.std.specs.Prelude.{◌≡◌, ◌+◌, ◌<◌, ◌≤◌, not, ◌++◌, length, take, drop};
 ghost use Rattle.sheet.specs.ClauseSteps.{placed};
 ghost use Rattle.sheet.specs.Clauses.{Laid, clause_words, clauses, ordinal_of};

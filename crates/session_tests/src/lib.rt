@@ -1,4 +1,6 @@
 // The calls of a session, tested over small lent buffers. What is expected comes from docs/CALLS.md, docs/LAYOUT.md and docs/REFUSALS.md.
+#![tactic(auto)]
+
 #[cfg(test)]
 mod add;
 #[cfg(test)]

@@ -1,4 +1,6 @@
 // How clauses, items and reconstruction records lie in the lent buffers, and the refusals with their numbers.
+#![tactic(auto)]
+
 pub mod buffers;
 pub mod clause;
 pub mod literal;

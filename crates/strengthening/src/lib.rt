@@ -1,6 +1,8 @@
 // Self-subsuming resolution. Where a clause has the denial of a plain literal of another clause, and otherwise only literals of that one, their
 // resolvent is the other clause without the literal, so the literal leaves it. The resolvent is met wherever both clauses are, and it
 // meets the longer clause: answers stay what they were, and nothing is recorded.
+#![tactic(auto)]
+
 ghost use Rattle.std.specs.Prelude.{◌≡◌, ℕ, ◌+◌, ◌<◌, ◌≤◌, not, ◌&&◌, List, ◌∷◌, ◌++◌, length, take, ◌==◌, slice_index};
 ghost use Rattle.marking.specs.Marks.{MarksOf};
 ghost use Rattle.places.specs.Spots.{PlaceFound};

@@ -1,5 +1,7 @@
 // Subsumption. A clause that has all the literals of another is met wherever that other is, so it says nothing of its own and goes; of two
 // equal clauses the later goes. Answers stay what they were, so nothing is recorded.
+#![tactic(auto)]
+
 ghost use Rattle.std.specs.Prelude.{◌≡◌, ◌≤◌, true, length, take};
 ghost use Rattle.meaning.specs.Steps.{outcome, repeated_step};
 ghost use Rattle.sheet.specs.ClauseSteps.{Step, placed};

@@ -1,4 +1,6 @@
 // Answers as bytes: whether one meets the clauses, the plan that it unwinds to along the reconstruction stack, and what both cost.
+#![tactic(auto)]
+
 mod bytes;
 mod clauses;
 mod costs;

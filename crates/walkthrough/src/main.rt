@@ -1,4 +1,6 @@
 // Two parking plans of one garage, weighed exactly and as single precision would have it, and the garage's rules and wishes gathered and closed, told step by step.
+#![tactic(auto)]
+
 mod gather;
 mod show;
 mod story;

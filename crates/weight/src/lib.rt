@@ -1,4 +1,6 @@
 // Weights of wishes: what a kind of weight is, two kinds, and the exact total of a lent slice.
+#![tactic(auto)]
+
 mod kind;
 mod tier;
 mod totals;

@@ -7,7 +7,7 @@ loop-w-init g c = so_far_none g.met.W.Weight.lawful g.W.Weight.value _ _ c.zero-
 
 pub loop-w-preserved : goal.loop-w-preserved
 loop-w-preserved g c =
-    so_far_more g.met.W.Weight.lawful g.W.Weight.value _ _ _ _ c.loop-w.invariant c.loop-w-test.true c.w-item.is _ c.in-ok-sum.ensures
+    so_far_more g.met.W.Weight.lawful g.W.Weight.value _ _ _ _ c.loop-w.invariant c.loop-w-test.true c.w-item.is _ c.in_ok-sum.ensures
 
 pub returns-in-err-sum : goal.returns-in-err-sum
 returns-in-err-sum g c =
