@@ -10,6 +10,6 @@ abbrev pub wholes : Kind ℕ
 wholes = record {
   zero = 0;
   sum = λ x y. x + y;
-  at_most = leb;
+  at_most = nat_le;
   within = λ x. nat_le x ceiling;
 }

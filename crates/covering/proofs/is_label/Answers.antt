@@ -5,4 +5,4 @@ use Rattle.rewriting.proofs.Rows.{item_is}
 use Rattle.covering.proofs.is_label.Goals as goal
 
 pub returns : goal.returns
-returns c = c.is-payable.ensures ∙ ap (λ (item : Item). is_payable item.standing) (item_is c.args.row.now c.args.i _ c.requires.low c.requires.high)
+returns c = c.is_payable.ensures ∙ ap (λ (item : Item). is_payable item.standing) (item_is c.args.row.now c.args.i _ c.requires.low c.requires.high)

@@ -11,7 +11,7 @@ pub returns-in-Some : goal.returns-in-Some
 returns-in-Some g c = rw c.located.ensures (searching_here c.loop-at.invariant.1 c.read-place.ensures c.requires.fits c.in-Some.i c.in-Some.ensures)
 
 pub loop-at-preserved : goal.loop-at-preserved
-loop-at-preserved g c = (c.unmark.ensures, searching_more c.loop-at.invariant.1 c.read-place.ensures c.in-default.ensures)
+loop-at-preserved g c = (c.unmark.ensures, searching_more c.loop-at.invariant.1 c.read-place.ensures c.in_default.ensures)
 
 pub returns : goal.returns
 returns g c = searching_done c.loop-at.invariant.1 c.loop-at-test.false

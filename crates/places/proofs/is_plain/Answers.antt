@@ -13,4 +13,4 @@ returns-then-item-eq0 c =
 pub returns : goal.returns
 returns c =
     let item = item_read c.args.row.now c.from-item.result (omega arith) c.if-item-row.false ∙ ap (item_at c.args.row.now) c.from-item.ensures in
-    c.stands-plain.ensures ∙ ap (λ x. is_plain x.standing) item
+    c.stands_plain.ensures ∙ ap (λ x. is_plain x.standing) item

@@ -11,8 +11,8 @@ loop-at-init c = sweeping_none c.args.w c.args.sheet.now c.args.fill c.requires.
 pub read-place-requires : goal.read-place-requires
 read-place-requires c = record { fits = omega (arith, c.loop-at.invariant.long); inside = omega arith; laid = c.loop-at.invariant.ahead }
 
-pub move-without-out-requires : goal.move-without-out-requires
-move-without-out-requires c =
+pub move_without-out-requires : goal.move_without-out-requires
+move_without-out-requires c =
     let step = c.read-place.ensures in
     let long = c.loop-at.invariant.long in
     let ends = step_ends c.loop-at.sheet c.loop-at.at c.args.fill c.read-place.result (omega arith) step in
@@ -21,9 +21,9 @@ move-without-out-requires c =
 
 pub loop-at-preserved-then-stays : goal.loop-at-preserved-then-stays
 loop-at-preserved-then-stays c =
-    let moved = c.move-without-out.ensures in
-    sweeping_moved c.loop-at.invariant c.read-place.ensures (sym c.stays.ensures ∙ c.if-stays.true) c.move-without-out.new.sheet c.move-without-out.result
-    c.move-without-out.auto.sheet moved.shrinks
+    let moved = c.move_without-out.ensures in
+    sweeping_moved c.loop-at.invariant c.read-place.ensures (sym c.stays.ensures ∙ c.if-stays.true) c.move_without-out.new.sheet c.move_without-out.result
+    c.move_without-out.auto.sheet moved.shrinks
     (moved.front ∙ ap (λ w. take c.loop-at.out c.loop-at.sheet ++ clause_words (lacking w (placed c.loop-at.sheet c.read-place.result))) c.opposite-denial.ensures)
     moved.behind
 

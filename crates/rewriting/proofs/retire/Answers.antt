@@ -8,4 +8,4 @@ returns c =
     let row = c.args.row.now in
     let i = c.args.i in
     ap (λ (item : Item). set row (i - 1) item)
-    (c.standing-as.ensures ∙ ap (λ (item : Item). record { standing = c.args.standing; ordinal = item.ordinal }) (item_is row i _ c.requires.low c.requires.high))
+    (c.standing_as.ensures ∙ ap (λ (item : Item). record { standing = c.args.standing; ordinal = item.ordinal }) (item_is row i _ c.requires.low c.requires.high))

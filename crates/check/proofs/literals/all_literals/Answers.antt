@@ -3,11 +3,11 @@ use Rattle.std.proofs.lemmas.Bool.Decides.{not_from_Decides}
 use Rattle.check.proofs.Passing.{refuses_all, accepts_all}
 use Rattle.check.proofs.literals.all_literals.Goals as goal
 
-pub returns-then-not-is-literal : goal.returns-then-not-is-literal
-returns-then-not-is-literal c = refuses_all _ _ _ 0 c.loop-w-test.true (not_from_Decides _ c.is-literal.ensures c.if-not-is-literal.true)
+pub returns-then-not-is_literal : goal.returns-then-not-is_literal
+returns-then-not-is_literal c = refuses_all _ _ _ 0 c.loop-w-test.true (not_from_Decides _ c.is_literal.ensures c.if-not-is_literal.true)
 
 pub loop-w-preserved : goal.loop-w-preserved
-loop-w-preserved c = All-more _ _ _ 0 c.loop-w-test.true c.loop-w.invariant (c.is-literal.ensures.0 c.if-not-is-literal.false)
+loop-w-preserved c = All-more _ _ _ 0 c.loop-w-test.true c.loop-w.invariant (c.is_literal.ensures.0 c.if-not-is_literal.false)
 
 pub returns : goal.returns
 returns c = accepts_all _ _ _ c.loop-w-test.false c.loop-w.invariant

@@ -4,11 +4,11 @@ use Rattle.check.proofs.Passing.{refuses_all, accepts_all}
 use Rattle.check.proofs.Reading.{blank}
 use Rattle.check.proofs.ordinals.ordinals_fit.Goals as goal
 
-pub returns-then-not-ordinal-fits : goal.returns-then-not-ordinal-fits
-returns-then-not-ordinal-fits c = refuses_all _ _ _ blank c.loop-item-test.true (not_from_Decides _ c.ordinal-fits.ensures c.if-not-ordinal-fits.true)
+pub returns-then-not-ordinal_fits : goal.returns-then-not-ordinal_fits
+returns-then-not-ordinal_fits c = refuses_all _ _ _ blank c.loop-item-test.true (not_from_Decides _ c.ordinal_fits.ensures c.if-not-ordinal_fits.true)
 
 pub loop-item-preserved : goal.loop-item-preserved
-loop-item-preserved c = All-more _ _ _ blank c.loop-item-test.true c.loop-item.invariant (c.ordinal-fits.ensures.0 c.if-not-ordinal-fits.false)
+loop-item-preserved c = All-more _ _ _ blank c.loop-item-test.true c.loop-item.invariant (c.ordinal_fits.ensures.0 c.if-not-ordinal_fits.false)
 
 pub returns : goal.returns
 returns c = accepts_all _ _ _ c.loop-item-test.false c.loop-item.invariant

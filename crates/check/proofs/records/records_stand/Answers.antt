@@ -5,14 +5,14 @@ use Rattle.sheet.proofs.Stacking.{records_nil}
 use Rattle.check.proofs.Passing.{accepts_rest, rests_back, refuses_back}
 use Rattle.check.proofs.records.records_stand.Goals as goal
 
-pub returns-then-not-all-literals : goal.returns-then-not-all-literals
-returns-then-not-all-literals c = refuses_back _ _ _ _ _ c.loop-end.invariant.2 c.newest-from.ensures.last (not_from_Decides _ c.all-literals.ensures c.if-not-all-literals.true)
+pub returns-then-not-all_literals : goal.returns-then-not-all_literals
+returns-then-not-all_literals c = refuses_back _ _ _ _ _ c.loop-end.invariant.2 c.newest-from.ensures.last (not_from_Decides _ c.all_literals.ensures c.if-not-all_literals.true)
 
 pub loop-end-preserved : goal.loop-end-preserved
 loop-end-preserved c = (
   omega arith,
   c.newest-from.ensures.rest,
-  rests_back _ _ _ _ _ c.loop-end.invariant.2 c.newest-from.ensures.last (c.all-literals.ensures.0 c.if-not-all-literals.false),
+  rests_back _ _ _ _ _ c.loop-end.invariant.2 c.newest-from.ensures.last (c.all_literals.ensures.0 c.if-not-all_literals.false),
 )
 
 pub returns : goal.returns

@@ -12,7 +12,7 @@ returns-in-None c =
     let all = clauses (take c.args.fill c.args.sheet.now) in
     let rest = clauses (between c.read-from.result.end c.args.fill c.args.sheet.now) in
     let here = ap (λ cs. length (resolvents_from c.args.x all cs)) c.read-from.ensures.here in
-    let more = count_from c.args.x all (placed c.args.sheet.now c.read-from.result) rest (sym c.has-literal.ensures ∙ c.if-has-literal.true) in
+    let more = count_from c.args.x all (placed c.args.sheet.now c.read-from.result) rest (sym c.has_literal.ensures ∙ c.if-has_literal.true) in
     let past = c.in-None.ensures in
     record { clear = c.unmark.ensures; bounded = sym (lt-leb _ _ (omega (arith, c.loop-at.invariant.3))) }
 
@@ -21,7 +21,7 @@ loop-at-preserved-in-Some c =
     let all = clauses (take c.args.fill c.args.sheet.now) in
     let rest = clauses (between c.read-from.result.end c.args.fill c.args.sheet.now) in
     let here = ap (λ cs. length (resolvents_from c.args.x all cs)) c.read-from.ensures.here in
-    let more = count_from c.args.x all (placed c.args.sheet.now c.read-from.result) rest (sym c.has-literal.ensures ∙ c.if-has-literal.true) in
+    let more = count_from c.args.x all (placed c.args.sheet.now c.read-from.result) rest (sym c.has_literal.ensures ∙ c.if-has_literal.true) in
     let spent = c.in-Some.ensures in
     (c.unmark.ensures, c.read-from.ensures.fits, c.read-from.ensures.rest, omega (arith, c.loop-at.invariant.3))
 
@@ -30,7 +30,7 @@ loop-at-preserved c =
     let all = clauses (take c.args.fill c.args.sheet.now) in
     let rest = clauses (between c.read-from.result.end c.args.fill c.args.sheet.now) in
     let here = ap (λ cs. length (resolvents_from c.args.x all cs)) c.read-from.ensures.here in
-    let same = ap length (from_skipped c.args.x all (placed c.args.sheet.now c.read-from.result) rest (sym c.has-literal.ensures ∙ c.if-has-literal.false)) in
+    let same = ap length (from_skipped c.args.x all (placed c.args.sheet.now c.read-from.result) rest (sym c.has_literal.ensures ∙ c.if-has_literal.false)) in
     (c.loop-at.invariant.0, c.read-from.ensures.fits, c.read-from.ensures.rest, omega (arith, c.loop-at.invariant.3))
 
 pub returns : goal.returns

@@ -24,7 +24,7 @@ pub returns-then-has : goal.returns-then-has
 returns-then-has c = λ ws marks.
     let d = c.args.d.now in
     let i = c.loop-w.w-index in
-    let words : All (λ w. w < 65536) d = All-from_get_or (λ w. w < 65536) d 0 (λ k inside. omega (arith, c.type-inv.d k)) in
+    let words : All (λ w. w < 65536) d = All-from_get_or (λ w. w < 65536) d 0 (λ k inside. omega (arith, c.type_inv.d k)) in
     let there : has (opposite (get_or d i 0)) ws ≡ true = flagged c.args.marked.now.table ws (get_or d i 0) c.opposite.result c.has.result marks c.opposite.ensures c.has.ensures ∙ c.if-has.true in
     sym (clash_here c.opposite-y.result ws d i c.loop-w-test.true c.if-w-y.true there) ∙ c.loop-w.invariant ws marks
     ∙ turned c.args.marked.now.table c.args.x c.opposite-y.result d (omega arith) c.opposite-y.ensures words ws marks
@@ -46,6 +46,6 @@ returns c = λ ws marks.
     let d = c.args.d.now in
     let i = c.loop-w.w-index in
     let y = c.opposite-y.result in
-    let words : All (λ w. w < 65536) d = All-from_get_or (λ w. w < 65536) d 0 (λ k inside. omega (arith, c.type-inv.d k)) in
+    let words : All (λ w. w < 65536) d = All-from_get_or (λ w. w < 65536) d 0 (λ k inside. omega (arith, c.type_inv.d k)) in
     let none : some (clashes_at y (working ws)) (drop i d) ≡ false = ap (some (clashes_at y (working ws))) (drop_all i d c.loop-w-test.false) in
     sym none ∙ c.loop-w.invariant ws marks ∙ turned c.args.marked.now.table c.args.x y d (omega arith) c.opposite-y.ensures words ws marks

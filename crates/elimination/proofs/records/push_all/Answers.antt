@@ -17,7 +17,7 @@ returns-then-limit-n c =
     let p = c.read-from.result in
     let rest = clauses (between p.end c.args.fill s) in
     let here = ap (λ cs. encode_stack (elimination_records c.args.x cs)) c.read-from.ensures.here in
-    let parts = here ∙ records_taken c.args.x (placed s p) rest (sym c.has-literal.ensures ∙ c.if-has-literal.true) in
+    let parts = here ∙ records_taken c.args.x (placed s p) rest (sym c.has_literal.ensures ∙ c.if-has_literal.true) in
     let size = record_length c.args.x (placed s p) in
     let past = c.if-limit-n.true in
     let high = c.loop-at.invariant.2.high in
@@ -32,15 +32,15 @@ loop-at-preserved-else-limit-n c =
     let p = c.read-from.result in
     let rest = clauses (between p.end c.args.fill s) in
     let here = ap (λ cs. encode_stack (elimination_records c.args.x cs)) c.read-from.ensures.here in
-    let parts = here ∙ records_taken c.args.x (placed s p) rest (sym c.has-literal.ensures ∙ c.if-has-literal.true) in
+    let parts = here ∙ records_taken c.args.x (placed s p) rest (sym c.has_literal.ensures ∙ c.if-has_literal.true) in
     let size = record_length c.args.x (placed s p) in
     let room = c.if-limit-n.false in
     let high = c.loop-at.invariant.2.high in
-    let end = c.push-clause-n.ensures.end in (
+    let end = c.push_clause-n.ensures.end in (
       c.read-from.ensures.fits,
       c.read-from.ensures.rest,
       writing_more c.requires.free.1 c.loop-at.invariant.2 (record_words (elimination_record c.args.x (placed s p))) (encode_stack (elimination_records c.args.x rest)) parts
-          c.push-clause-n.new.stack c.push-clause-n.result c.push-clause-n.auto.stack (omega arith) (omega arith) c.push-clause-n.ensures.words,
+          c.push_clause-n.new.stack c.push_clause-n.result c.push_clause-n.auto.stack (omega arith) (omega arith) c.push_clause-n.ensures.words,
     )
 
 pub loop-at-preserved : goal.loop-at-preserved
@@ -51,7 +51,7 @@ loop-at-preserved c =
     let here = ap (λ cs. encode_stack (elimination_records c.args.x cs)) c.read-from.ensures.here in (
       c.read-from.ensures.fits,
       c.read-from.ensures.rest,
-      writing_skip c.requires.free.1 c.loop-at.invariant.2 (encode_stack (elimination_records c.args.x rest)) (here ∙ records_skipped c.args.x (placed s p) rest (sym c.has-literal.ensures ∙ c.if-has-literal.false)),
+      writing_skip c.requires.free.1 c.loop-at.invariant.2 (encode_stack (elimination_records c.args.x rest)) (here ∙ records_skipped c.args.x (placed s p) rest (sym c.has_literal.ensures ∙ c.if-has_literal.false)),
     )
 
 pub returns : goal.returns

@@ -16,6 +16,6 @@ loop-wish-preserved g c =
     let within = c.loop-wish-test.true in
     let inv = c.loop-wish.invariant.0 in
     so_far given bays wishes _ _ (elim c.if-not-keeps.branch [
-      | then-not-keeps+in-ok-push w ↦ rw w.weights-is (one_broken given bays wishes i _ c.keeps.result w.of.result ws (vec_items w.push.new.self) within c.keeps.ensures w.if-not-keeps.true w.of.ensures inv w.in-ok-push.ensures.items)
+      | then-not-keeps+in-ok-push w ↦ rw w.weights-is (one_broken given bays wishes i _ c.keeps.result w.of.result ws (vec_items w.push.new.self) within c.keeps.ensures w.if-not-keeps.true w.of.ensures inv w.in_ok-push.ensures.items)
       | else-not-keeps w ↦ rw w.weights-is (one_kept given bays wishes i _ c.keeps.result ws within c.keeps.ensures w.if-not-keeps.false inv)
     ])

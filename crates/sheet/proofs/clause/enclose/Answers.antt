@@ -10,8 +10,8 @@ returns c =
     let at = c.args.at in
     let n = c.args.count in
     let t = c.args.tag in
-    let ended = c.write-ordinal.ensures in
-    let now' : c.write-ordinal.new.sheet ≡ with_ordinal (set s at (kind_of t * 4096 + n)) (at + 1 + n) t = ended.words ∙ ap (λ ws. with_ordinal ws (at + 1 + n) t) c.write-header.ensures in
+    let ended = c.write_ordinal.ensures in
+    let now' : c.write_ordinal.new.sheet ≡ with_ordinal (set s at (kind_of t * 4096 + n)) (at + 1 + n) t = ended.words ∙ ap (λ ws. with_ordinal ws (at + 1 + n) t) c.write_header.ensures in
     record {
       end = ended.end;
       words = ap₂ (λ (k : ℕ) (ws : List ℕ). take k ws) ended.end now' ∙ enclosed s at n t c.requires.room;

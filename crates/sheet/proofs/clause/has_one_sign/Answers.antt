@@ -17,7 +17,7 @@ returns-in-Equal c =
     refuses (merged_both c.requires.rising c.requires.parted c.loop-plain.invariant c.loop-plain-test.true c.if-denied-lits.true (omega (arith, c.in-Equal.ensures)))
 
 pub returns-else-denied-lits : goal.returns-else-denied-lits
-returns-else-denied-lits c = accepts (merged_all c.requires.parted c.loop-plain.invariant (inr (omega arith)) (λ k. omega (arith, c.type-inv.lits k)))
+returns-else-denied-lits c = accepts (merged_all c.requires.parted c.loop-plain.invariant (inr (omega arith)) (λ k. omega (arith, c.type_inv.lits k)))
 
 pub returns-after-loop-plain : goal.returns-after-loop-plain
-returns-after-loop-plain c = accepts (merged_all c.requires.parted c.loop-plain.invariant (inl (omega arith)) (λ k. omega (arith, c.type-inv.lits k)))
+returns-after-loop-plain c = accepts (merged_all c.requires.parted c.loop-plain.invariant (inl (omega arith)) (λ k. omega (arith, c.type_inv.lits k)))

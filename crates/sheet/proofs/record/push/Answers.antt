@@ -13,5 +13,5 @@ returns c =
     let to = fill + length ws in
     record {
       end = refl;
-      words = ap (λ (xs : List _). take (to + 2) (set (set (put_mid fill (to - fill) s xs) to w) (to + 1) t)) c.copy-from-slice.ensures.after ∙ pushed s ws fill w t c.requires.room ∙ ap (λ z. take fill s ++ (ws ++ w ∷ z ∷ [])) c.trailer.ensures;
+      words = ap (λ (xs : List _). take (to + 2) (set (set (put_mid fill (to - fill) s xs) to w) (to + 1) t)) c.copy_from_slice.ensures.after ∙ pushed s ws fill w t c.requires.room ∙ ap (λ z. take fill s ++ (ws ++ w ∷ z ∷ [])) c.trailer.ensures;
     }

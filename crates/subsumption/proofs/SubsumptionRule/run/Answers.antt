@@ -6,7 +6,7 @@ use Rattle.subsumption.proofs.SubsumptionRule.run.Goals as goal
 pub returns : goal.returns
 returns g c =
     let b = lent c.args.sheet c.args.row c.args.stack c.args.weights c.args.marks.now c.args.counts in
-    let done = c.remove-subsumed-fill.ensures in
-    let long : length c.remove-subsumed-fill.new.sheet ≡ length c.args.sheet.now = omega arith in
-    subsumption_went g.W.Weight g.met.W.Weight.lawful b c.in-default.ensures c.args.limit c.remove-subsumed-fill.new.sheet c.remove-subsumed-fill.result.fill c.remove-subsumed-fill.result.report
+    let done = c.remove_subsumed-fill.ensures in
+    let long : length c.remove_subsumed-fill.new.sheet ≡ length c.args.sheet.now = omega arith in
+    subsumption_went g.W.Weight g.met.W.Weight.lawful b c.in_default.ensures c.args.limit c.remove_subsumed-fill.new.sheet c.remove_subsumed-fill.result.fill c.remove_subsumed-fill.result.report
     long done.shrinks done.laid done.exact

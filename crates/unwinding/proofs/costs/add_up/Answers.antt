@@ -4,7 +4,7 @@ use Rattle.sheet.specs.declared.row.Item.{Item}
 use Rattle.sheet.specs.declared.row.Standing.TheVariants.{Plain}
 use Rattle.unwinding.proofs.Billing.{charged_at, charged_ordinal, weight_at, billing_none, billing_same, billing_free, billing_more, billing_past, billing_all}
 use Rattle.unwinding.proofs.costs.add_up.Goals as goal
-use Rattle.unwinding.proofs.costs.add_up.Goals.{then-is-charged+in-ok-sum, else-is-charged}
+use Rattle.unwinding.proofs.costs.add_up.Goals.{then-is_charged+in-ok-sum, else-is_charged}
 
 -- what a read past the row's end would give
 abbrev blank : Item
@@ -16,21 +16,21 @@ loop-i-init g c = billing_none g.met.W.Weight.lawful c.args.bill _ _ c.args.row.
 pub bounds-weights-from : goal.bounds-weights-from
 bounds-weights-from g c =
     subst (λ n. n < length c.args.weights.now) (sym c.from.ensures)
-    (charged_ordinal c.args.bill _ c.args.row.now c.loop-i.i blank _ c.requires c.loop-i-test.true (sym c.is-charged.ensures ∙ c.if-is-charged.true))
+    (charged_ordinal c.args.bill _ c.args.row.now c.loop-i.i blank _ c.requires c.loop-i-test.true (sym c.is_charged.ensures ∙ c.if-is_charged.true))
 
 pub offset-bounds-weights-from : goal.offset-bounds-weights-from
 offset-bounds-weights-from g c = let h = bounds-weights-from g c in omega arith
 
-pub returns-in-err-sum : goal.returns-in-err-sum
-returns-in-err-sum g c =
+pub returns-in_err-sum : goal.returns-in_err-sum
+returns-in_err-sum g c =
     let m = g.W.Weight in
     let ws = c.args.weights.now in
     let x = get_or c.args.row.now c.loop-i.i blank in
-    let is = charged_at c.args.bill x.standing c.is-yes.ensures c.is-charged.ensures c.if-is-charged.true in
+    let is = charged_at c.args.bill x.standing c.is_yes.ensures c.is_charged.ensures c.if-is_charged.true in
     let inside = charged_ordinal c.args.bill (length ws) c.args.row.now c.loop-i.i blank _ c.requires c.loop-i-test.true is in
     let weighs = weight_at m.kind m.value ws c.index-weights-from.result x.ordinal c.from.result c.from.ensures inside c.index-weights-from.is in
-    let past = billing_past g.met.W.Weight.lawful c.loop-i.invariant c.loop-i-test.true blank is weighs c.in-err-sum.ensures in
-    let p = err_from_is_err_and c.from-residual.result c.from-residual.ensures.1 in
+    let past = billing_past g.met.W.Weight.lawful c.loop-i.invariant c.loop-i-test.true blank is weighs c.in_err-sum.ensures in
+    let p = err_from_is_err_and c.from_residual.result c.from_residual.ensures.1 in
     rw p.1 past
 
 pub loop-i-preserved : goal.loop-i-preserved
@@ -38,14 +38,14 @@ loop-i-preserved g c =
     let m = g.W.Weight in
     let ws = c.args.weights.now in
     let x = get_or c.args.row.now c.loop-i.i blank in
-    elim c.if-is-charged.branch [
-      | then-is-charged+in-ok-sum w ↦
-          let is = charged_at c.args.bill x.standing c.is-yes.ensures c.is-charged.ensures w.if-is-charged.true in
+    elim c.if-is_charged.branch [
+      | then-is_charged+in-ok-sum w ↦
+          let is = charged_at c.args.bill x.standing c.is_yes.ensures c.is_charged.ensures w.if-is_charged.true in
           let inside = charged_ordinal c.args.bill (length ws) c.args.row.now c.loop-i.i blank _ c.requires c.loop-i-test.true is in
           let weighs = weight_at m.kind m.value ws w.index-weights-from.result x.ordinal w.from.result w.from.ensures inside w.index-weights-from.is in
-          billing_same (ap m.value w.sum-is) (billing_more g.met.W.Weight.lawful c.loop-i.invariant c.loop-i-test.true blank is weighs w.in-ok-sum.ensures)
-      | else-is-charged w ↦
-          let free = charged_at c.args.bill x.standing c.is-yes.ensures c.is-charged.ensures w.if-is-charged.false in
+          billing_same (ap m.value w.sum-is) (billing_more g.met.W.Weight.lawful c.loop-i.invariant c.loop-i-test.true blank is weighs w.in_ok-sum.ensures)
+      | else-is_charged w ↦
+          let free = charged_at c.args.bill x.standing c.is_yes.ensures c.is_charged.ensures w.if-is_charged.false in
           billing_same (ap m.value w.sum-is) (billing_free g.met.W.Weight.lawful c.loop-i.invariant c.loop-i-test.true blank free)
     ]
 

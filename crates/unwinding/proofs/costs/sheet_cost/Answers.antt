@@ -7,4 +7,4 @@ use Rattle.unwinding.proofs.costs.sheet_cost.Goals as goal
 pub returns : goal.returns
 returns g c =
     let m = g.W.Weight in
-    subst (λ exact. ExactOrTooLarge m.kind m.value exact c.add-up.result) (sym (row_cost_billed m.kind (map m.value c.args.weights.now) (values_of c.args.answer.now) 1 c.args.row.now)) c.add-up.ensures
+    subst (λ exact. ExactOrTooLarge m.kind m.value exact c.add_up.result) (sym (row_cost_billed m.kind (map m.value c.args.weights.now) (values_of c.args.answer.now) 1 c.args.row.now)) c.add_up.ensures

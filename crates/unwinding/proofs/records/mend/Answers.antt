@@ -2,8 +2,8 @@ use Rattle.std.proofs.Common.{sym, ◌∙◌}
 use Rattle.std.proofs.lemmas.Bool.{cond-false}
 use Rattle.unwinding.proofs.records.mend.Goals as goal
 
-pub returns-then-not-is-met : goal.returns-then-not-is-met
-returns-then-not-is-met c = record {
-  mended = c.make-true.ensures.made ∙ sym (cond-false _ _ _ (sym c.is-met.ensures ∙ c.if-not-is-met.true));
-  bits = c.make-true.ensures.bits;
+pub returns-then-not-is_met : goal.returns-then-not-is_met
+returns-then-not-is_met c = record {
+  mended = c.make_true.ensures.made ∙ sym (cond-false _ _ _ (sym c.is_met.ensures ∙ c.if-not-is_met.true));
+  bits = c.make_true.ensures.bits;
 }

@@ -9,12 +9,12 @@ pub follow-requires : goal.follow-requires
 follow-requires c = record {
   fits = c.requires.fits;
   laid = c.requires.laid;
-  literals = subst (λ n. All (λ r. All (Literal n) r.lits) (records (take c.args.fill c.args.stack.now))) (sym c.reset-retired.auto.answer) c.requires.literals;
-  bits = c.reset-retired.ensures.bits;
+  literals = subst (λ n. All (λ r. All (Literal n) r.lits) (records (take c.args.fill c.args.stack.now))) (sym c.reset_retired.auto.answer) c.requires.literals;
+  bits = c.reset_retired.ensures.bits;
 }
 
 pub returns : goal.returns
 returns c = record {
-  plan = c.follow.ensures.unwound ∙ ap (unwound (records (take c.args.fill c.args.stack.now))) c.reset-retired.ensures.reset;
+  plan = c.follow.ensures.unwound ∙ ap (unwound (records (take c.args.fill c.args.stack.now))) c.reset_retired.ensures.reset;
   bits = c.follow.ensures.bits;
 }

@@ -9,8 +9,8 @@ pub loop-w-preserved : goal.loop-w-preserved
 loop-w-preserved g c =
     so_far_more g.met.W.Weight.lawful g.W.Weight.value _ _ _ _ c.loop-w.invariant c.loop-w-test.true c.w-item.is _ c.in_ok-sum.ensures
 
-pub returns-in-err-sum : goal.returns-in-err-sum
-returns-in-err-sum g c =
-    let past = so_far_past g.met.W.Weight.lawful g.W.Weight.value _ _ _ _ c.loop-w.invariant c.loop-w-test.true c.w-item.is c.in-err-sum.ensures in
-    let p = err_from_is_err_and c.from-residual.result c.from-residual.ensures.1 in
+pub returns-in_err-sum : goal.returns-in_err-sum
+returns-in_err-sum g c =
+    let past = so_far_past g.met.W.Weight.lawful g.W.Weight.value _ _ _ _ c.loop-w.invariant c.loop-w-test.true c.w-item.is c.in_err-sum.ensures in
+    let p = err_from_is_err_and c.from_residual.result c.from_residual.ensures.1 in
     rw p.1 past

@@ -15,13 +15,13 @@ loop-at-init c =
     let fill = c.args.fill in
     (ahead_none s fill c.requires.laid c.requires.ranged, ap (λ ws. c.args.items + fresh_labels (clauses (take fill s)) (clauses ws)) (between_zero s fill), omega arith)
 
-pub fresh-items-needed-requires : goal.fresh-items-needed-requires
-fresh-items-needed-requires c = literals_here c.loop-at.invariant.0 c.read-tag.ensures
+pub fresh_items-needed-requires : goal.fresh_items-needed-requires
+fresh_items-needed-requires c = literals_here c.loop-at.invariant.0 c.read-tag.ensures
 
 pub overflow-add-needed : goal.overflow-add-needed
 overflow-add-needed c =
     let all = clauses (take c.args.fill c.args.sheet.now) in
-    let fresh = c.fresh-items-needed.ensures all c.requires.surveyed in
+    let fresh = c.fresh_items-needed.ensures all c.requires.surveyed in
     let one = fresh_labels_one all (placed c.args.sheet.now c.read-tag.result) in
     omega arith
 
@@ -33,7 +33,7 @@ loop-at-preserved c =
     let step = c.read-tag.ensures in
     let all = clauses (take fill s) in
     let rest = clauses (between p.end fill s) in
-    let fresh = c.fresh-items-needed.ensures all c.requires.surveyed in
+    let fresh = c.fresh_items-needed.ensures all c.requires.surveyed in
     let one = fresh_labels_one all (placed s p) in
     let sum = ap (fresh_labels all) step.here ∙ fresh_labels_cons all (placed s p) rest in
     let from = step.from in

@@ -14,22 +14,22 @@ returns-in-Some g c =
     let a : UnwindAnswered m b sent sent (Err e) = (inl (c.in-Some.part, refl, c.in-Some.ensures), refl) in
     record { answer = a; faithful = unwind_faithful m g.met.W.Weight.lawful b sent sent (Err e) a }
 
-pub returns-in-Some-answer-cause : goal.returns-in-Some-answer-cause
-returns-in-Some-answer-cause g c =
+pub returns-in-Some-answer_cause : goal.returns-in-Some-answer_cause
+returns-in-Some-answer_cause g c =
     let m = g.W.Weight in
     let b = lent c.args.sheet c.args.row c.args.stack c.args.weights c.args.self.now.marks c.args.self.now.counts in
     let sent = c.args.answer.now in
-    let e = c.in-Some-answer-cause.cause in
-    let cause = sym (cause_is m b sent) ∙ sym c.answer-cause.ensures ∙ c.in-Some-answer-cause.is in
-    let a : UnwindAnswered m b sent sent (Err e) = (inr (c.in-default.ensures, cause), refl) in
+    let e = c.in-Some-answer_cause.cause in
+    let cause = sym (cause_is m b sent) ∙ sym c.answer_cause.ensures ∙ c.in-Some-answer_cause.is in
+    let a : UnwindAnswered m b sent sent (Err e) = (inr (c.in_default.ensures, cause), refl) in
     record { answer = a; faithful = unwind_faithful m g.met.W.Weight.lawful b sent sent (Err e) a }
 
-pub unwind-costed-requires : goal.unwind-costed-requires
-unwind-costed-requires g c =
+pub unwind_costed-requires : goal.unwind_costed-requires
+unwind_costed-requires g c =
     let m = g.W.Weight in
     let b = lent c.args.sheet c.args.row c.args.stack c.args.weights c.args.self.now.marks c.args.self.now.counts in
-    let passes = sym c.answer-cause.ensures ∙ c.in-default-answer-cause.is in
-    unwindable m g.met.W.Weight.lawful b c.in-default.ensures c.args.answer.now passes
+    let passes = sym c.answer_cause.ensures ∙ c.in_default-answer_cause.is in
+    unwindable m g.met.W.Weight.lawful b c.in_default.ensures c.args.answer.now passes
 
 pub returns : goal.returns
 returns g c =
@@ -37,9 +37,9 @@ returns g c =
     let laws = g.met.W.Weight.lawful in
     let b = lent c.args.sheet c.args.row c.args.stack c.args.weights c.args.self.now.marks c.args.self.now.counts in
     let sent = c.args.answer.now in
-    let after = c.unwind-costed.new.answer in
-    let costs = c.unwind-costed.result in
-    let made = c.unwind-costed.ensures in
-    let passes = sym c.answer-cause.ensures ∙ c.in-default-answer-cause.is in
-    let a : UnwindAnswered m b sent after (Ok costs) = unwound_from m laws b c.in-default.ensures sent passes after costs.0 costs.1 made.plan made.bits c.unwind-costed.auto.answer made.sent made.paid in
+    let after = c.unwind_costed.new.answer in
+    let costs = c.unwind_costed.result in
+    let made = c.unwind_costed.ensures in
+    let passes = sym c.answer_cause.ensures ∙ c.in_default-answer_cause.is in
+    let a : UnwindAnswered m b sent after (Ok costs) = unwound_from m laws b c.in_default.ensures sent passes after costs.0 costs.1 made.plan made.bits c.unwind_costed.auto.answer made.sent made.paid in
     record { answer = a; faithful = unwind_faithful m laws b sent after (Ok costs) a }

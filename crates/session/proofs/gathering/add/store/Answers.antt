@@ -31,9 +31,9 @@ returns c =
     let bound = c.requires.fits.bound in
     let inside : fill + suc (length (ws ++ ordinal_of tag)) ≤ min (length s) 32768 = omega arith in
     let fits : fill + 1 + length ws ≤ length s = omega arith in
-    let mid = c.write-words.new.sheet in
-    let front : take fill mid ≡ take fill s = ap (take fill) c.write-words.ensures.after ∙ paste_front s (fill + 1) ws fits fill (omega arith) in
-    let part : between (fill + 1) (fill + 1 + n) mid ≡ ws = ap (λ k. between (fill + 1) (fill + 1 + k) mid) count ∙ ap (between (fill + 1) (fill + 1 + length ws)) c.write-words.ensures.after ∙ paste_part s (fill + 1) ws fits in (
+    let mid = c.write_words.new.sheet in
+    let front : take fill mid ≡ take fill s = ap (take fill) c.write_words.ensures.after ∙ paste_front s (fill + 1) ws fits fill (omega arith) in
+    let part : between (fill + 1) (fill + 1 + n) mid ≡ ws = ap (λ k. between (fill + 1) (fill + 1 + k) mid) count ∙ ap (between (fill + 1) (fill + 1 + length ws)) c.write_words.ensures.after ∙ paste_part s (fill + 1) ws fits in (
       words_fit fill (length s) (suc (length (ws ++ ordinal_of tag))) inside,
       omega (arith, c.enclose.ensures.end),
       c.enclose.ensures.words ∙ ap₂ (λ (xs ys : List ℕ). xs ++ clause_words (record { tag = tag; lits = ys })) front part,
