@@ -1,6 +1,6 @@
 -- The row and the clauses of a sheet that closes, clause by clause. Assumes nothing.
 use Rattle.std.proofs.Common.{◌≡◌, ℕ, suc, ◌+◌, ◌-◌, ◌<◌, ◌≤◌, Bool, true, false, cond, not, ◌&&◌, eqb, List, [], ◌∷◌, ◌++◌, length, set, refl, ap, ◌∙◌, inl, inr, arith}
-use mathlib.Core.Bool.{or_false}
+use mathlib.Core.Bool.{or-false}
 use Rattle.std.specs.List.{AllByRecursion as All}
 use Rattle.std.proofs.ByRecursion.{All-append, All-set, All-push}
 use Rattle.std.proofs.lemmas.List.{length-set, length_push}
@@ -31,7 +31,7 @@ lends all (w ∷ []) is =
       ranged = λ n literals. (literals.0.low, literals.0.high);
       once = eqb-true (softs_naming (item_of w) all) 1 (and_parts _ (not (in_hard w all)) parts.1).0;
       named = or_left (eqb (item_of w) (item_of w)) false (eq-eqb (item_of w) (item_of w) refl);
-      met_unless = λ v. or_false (is_true v w) ∙ ap (λ b. cond b (not (v (item_of w))) (v (item_of w))) parts.0;
+      met_unless = λ v. or-false (is_true v w) ∙ ap (λ b. cond b (not (v (item_of w))) (v (item_of w))) parts.0;
     }
 lends all (w ∷ x ∷ ws) is = absurd (both_ways false refl is)
 
