@@ -10,7 +10,7 @@ use sheet::record::{Filed, newest};
 pub(crate) fn records_stand(items: usize, stack: &[u16], fill: usize) -> bool
     requires fits { fill ≤ length stack.now }
     requires laid { Stacked (take fill stack.now) }
-    ensures* { λ r. ⌜ Decides r (All (λ r. All (Literal items) r.lits) (records (take fill stack.now))) ⌝ }
+    ensures { Decides result (All (λ r. All (Literal items) r.lits) (records (take fill stack.now))) }
 {
     let mut end = fill;
     while end > 0 {

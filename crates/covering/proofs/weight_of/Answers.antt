@@ -3,8 +3,8 @@ use Rattle.sheet.specs.declared.row.Standing.TheVariants.{Plain}
 use Rattle.covering.proofs.Weighing.{weighed_label, weight_of_lem}
 use Rattle.covering.proofs.weight_of.Goals as goal
 
-pub offset-bounds-weights-row : goal.offset-bounds-weights-row
-offset-bounds-weights-row g c =
+pub offset_bounds-weights-row : goal.offset_bounds-weights-row
+offset_bounds-weights-row g c =
     let inside = weighed_label c.args.row.now c.args.weights.now c.args.i (record { standing = Plain; ordinal = 0 }) c.requires.low c.requires.high c.requires.label c.requires.weighed in
     omega arith
 

@@ -4,7 +4,7 @@ use Rattle.sheet.specs.declared.row.Item.{Item}
 use Rattle.sheet.specs.declared.row.Standing.TheVariants.{Plain}
 use Rattle.unwinding.proofs.Billing.{charged_at, charged_ordinal, weight_at, billing_none, billing_same, billing_free, billing_more, billing_past, billing_all}
 use Rattle.unwinding.proofs.costs.add_up.Goals as goal
-use Rattle.unwinding.proofs.costs.add_up.Goals.{then-is_charged+in-ok-sum, else-is_charged}
+use Rattle.unwinding.proofs.costs.add_up.Goals.{then-is_charged+in_ok-sum, else-is_charged}
 
 -- what a read past the row's end would give
 abbrev blank : Item
@@ -18,8 +18,8 @@ bounds-weights-from g c =
     subst (λ n. n < length c.args.weights.now) (sym c.from.ensures)
     (charged_ordinal c.args.bill _ c.args.row.now c.loop-i.i blank _ c.requires c.loop-i-test.true (sym c.is_charged.ensures ∙ c.if-is_charged.true))
 
-pub offset-bounds-weights-from : goal.offset-bounds-weights-from
-offset-bounds-weights-from g c = let h = bounds-weights-from g c in omega arith
+pub offset_bounds-weights-from : goal.offset_bounds-weights-from
+offset_bounds-weights-from g c = let h = bounds-weights-from g c in omega arith
 
 pub returns-in_err-sum : goal.returns-in_err-sum
 returns-in_err-sum g c =
@@ -39,7 +39,7 @@ loop-i-preserved g c =
     let ws = c.args.weights.now in
     let x = get_or c.args.row.now c.loop-i.i blank in
     elim c.if-is_charged.branch [
-      | then-is_charged+in-ok-sum w ↦
+      | then-is_charged+in_ok-sum w ↦
           let is = charged_at c.args.bill x.standing c.is_yes.ensures c.is_charged.ensures w.if-is_charged.true in
           let inside = charged_ordinal c.args.bill (length ws) c.args.row.now c.loop-i.i blank _ c.requires c.loop-i-test.true is in
           let weighs = weight_at m.kind m.value ws w.index-weights-from.result x.ordinal w.from.result w.from.ensures inside w.index-weights-from.is in

@@ -18,8 +18,8 @@ loop-at-init c =
 pub fresh_items-needed-requires : goal.fresh_items-needed-requires
 fresh_items-needed-requires c = literals_here c.loop-at.invariant.0 c.read-tag.ensures
 
-pub overflow-add-needed : goal.overflow-add-needed
-overflow-add-needed c =
+pub overflow_add-needed : goal.overflow_add-needed
+overflow_add-needed c =
     let all = clauses (take c.args.fill c.args.sheet.now) in
     let fresh = c.fresh_items-needed.ensures all c.requires.surveyed in
     let one = fresh_labels_one all (placed c.args.sheet.now c.read-tag.result) in

@@ -10,8 +10,8 @@ loop-w-init c = (record { counts = λ i less. refl; capped = c.requires.capped }
 pub bounds-self-w : goal.bounds-self-w
 bounds-self-w c = slot_inside c.args.lits.now c.loop-w.w-index c.requires.literals
 
-pub overflow-add-count : goal.overflow-add-count
-overflow-add-count c =
+pub overflow_add-count : goal.overflow_add-count
+overflow_add-count c =
     let w = get_or c.args.lits.now c.loop-w.w-index 0 in
     let capped = c.loop-w.invariant.0.capped (item_of w) (slot_inside c.args.lits.now c.loop-w.w-index c.requires.literals) in
     omega arith
