@@ -14,7 +14,7 @@ ghost use Rattle.sheet.specs.declared.clause.Tag.TheVariants.{Working};
 ghost use Rattle.std.specs.List.{between};
 ghost use Rattle.steps.specs.Blocking.{BlockingRuns};
 
-use check::holds_together;
+use checking::holds_together;
 use marking::Marked;
 use meaning::report::{Ending, Report};
 use places::{Found, Test, first_place, is_plain};

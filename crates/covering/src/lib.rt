@@ -10,7 +10,7 @@ ghost use Rattle.steps.specs.Covering.{CoveringRuns, covers as covering, is_cove
 ghost use Rattle.steps.specs.Places.{every, lowest_item, nameable as named};
 ghost use Rattle.steps.specs.Rewriting.{is_payable, payable_at};
 
-use check::holds_together;
+use checking::holds_together;
 use meaning::report::{Ending, Report};
 use rewriting::{make_true, retire};
 use rules::rule::Rule;

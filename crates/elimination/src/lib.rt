@@ -7,7 +7,7 @@ ghost use Rattle.steps.specs.Elimination.{EliminationRuns};
 
 use crate::find::first_to_go;
 use crate::step::{eliminate, fix};
-use check::holds_together;
+use checking::holds_together;
 use marking::Marked;
 use meaning::report::{Ending, Report};
 use rules::rule::Rule;

@@ -10,7 +10,7 @@ ghost use Rattle.sheet.specs.Rows.{item_at};
 ghost use Rattle.steps.specs.Propagation.{PropagationRuns, first_unit, settled_as, unit_of, unit_record};
 ghost use Rattle.steps.specs.Rewriting.{retired};
 
-use check::holds_together;
+use checking::holds_together;
 use meaning::report::{Ending, Report};
 use rewriting::{make_true, retire};
 use rules::rule::Rule;

@@ -3,7 +3,7 @@ ghost use Rattle.std.specs.Prelude.{◌≡◌, ◌+◌, ◌^◌, ◌<◌, ◌==�
 ghost use Rattle.meaning.specs.Steps.{Then, Repeated, is_going_on};
 
 use crate::rule::Rule;
-use check::holds_together;
+use checking::holds_together;
 use meaning::report::{Ending, Report};
 use sheet::buffers::{Counts, Marks, Phase};
 use sheet::refusal::Refusal;

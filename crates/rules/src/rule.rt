@@ -27,5 +27,5 @@ pub trait Rule<W: Weight> {
         counts: Counts,
         limit: u64,
     ) -> Result<Report, Refusal>
-        ensures { RunAnswered W.Weight (runs self.now W.Weight.Value W.Weight.kind) limit (lent sheet.entry row.entry stack.entry weights.entry marks.old counts) (lent sheet.exit row.exit stack.exit weights.entry marks.new counts) result };
+        ensures { RunAnswered W.Weight (runs self.now W.Weight.Value W.Weight.kind) limit (lent sheet.old row.old stack.old weights.now marks.old counts) (lent sheet.new row.new stack.new weights.now marks.new counts) result };
 }

@@ -1,6 +1,5 @@
 -- The sheet that the lent buffers stand for. Assumes nothing.
 use Rattle.std.specs.Prelude.{◌≡◌, ℕ, ◌≤◌, List, map, length, take}
-use Rattle.std.specs.Borrow.{Bor}
 use Rattle.weight.specs.declared.kind.Weight.{Ghosts}
 use Rattle.sheet.specs.declared.buffers.Marks.{Marks}
 use Rattle.sheet.specs.declared.buffers.Counts.{Counts}
@@ -27,9 +26,9 @@ pub record Lent (W : Type 0) : Type 0 where
   pub marks : Marks
   pub counts : Counts
 
--- the same from references
-abbrev pub lent : {W : Type 0} → Bor (List ℕ) → Bor (List Item) → Bor (List ℕ) → Bor (List W) → Marks → Counts → Lent W
-lent sheet row stack weights marks counts = record { sheet = sheet.now; row = row.now; stack = stack.now; weights = weights.now; marks = marks; counts = counts }
+-- the same, made of what the references point to
+abbrev pub lent : {W : Type 0} → List ℕ → List Item → List ℕ → List W → Marks → Counts → Lent W
+lent sheet row stack weights marks counts = record { sheet = sheet; row = row; stack = stack; weights = weights; marks = marks; counts = counts }
 
 -- Words fit where they end within the bound of 32,768 and within the buffer.
 pub record Fits (end : ℕ) (buffer : List ℕ) : Type 0 where

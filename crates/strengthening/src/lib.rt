@@ -15,7 +15,7 @@ ghost use Rattle.steps.specs.Rewriting.{lacking};
 ghost use Rattle.steps.specs.Strengthening.{StrengtheningRuns};
 ghost use Rattle.strengthening.specs.Leaving.{leaves, yielded, yields_to};
 
-use check::holds_together;
+use checking::holds_together;
 use marking::Marked;
 use meaning::report::{Ending, Report};
 use places::{Found, Test, first_place, is_plain};

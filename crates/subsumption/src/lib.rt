@@ -14,7 +14,7 @@ ghost use Rattle.steps.specs.Rewriting.{inside};
 ghost use Rattle.steps.specs.Subsumption.{SubsumptionRuns, is_subsumed, subsumed_once};
 ghost use Rattle.subsumption.specs.Sides.{subsumes as subsumesBy};
 
-use check::holds_together;
+use checking::holds_together;
 use meaning::report::{Ending, Report};
 use rules::rule::Rule;
 use sheet::buffers::{Counts, Marks, Phase};

@@ -1,5 +1,5 @@
 use Rattle.std.proofs.Common.{sym, ap, ◌∙◌, inl, inr, arith}
-use Rattle.check.proofs.Reading.{item_read}
+use Rattle.checking.proofs.Reading.{item_read}
 use Rattle.sheet.specs.Rows.{item_at}
 use Rattle.steps.specs.Rewriting.{is_plain, plain_at}
 use Rattle.places.proofs.Plainness.{plain_none}

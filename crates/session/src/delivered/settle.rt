@@ -18,7 +18,7 @@ impl Delivered {
         weights: &[W],
     ) -> Working
         ensures same { (result.marks ≡ self.marks) × (result.counts ≡ self.counts) }
-        ensures faithful { SettleFaithful W.Weight (lent sheet.entry row.entry stack.entry weights.entry self.marks self.counts) (lent sheet.entry row.entry stack.entry weights.entry result.marks result.counts) }
+        ensures faithful { SettleFaithful W.Weight (lent sheet.now row.now stack.now weights.now self.marks self.counts) (lent sheet.now row.now stack.now weights.now result.marks result.counts) }
     {
         let Delivered { marks, counts } = self;
         Working::of(marks, counts)

@@ -9,7 +9,7 @@ ghost use Rattle.unwinding.specs.Charges.{paid_cost_in, sheet_cost_in};
 ghost use Rattle.session.specs.Unwound.{Unwindable, UnwindAnswered, UnwindFaithful, answer_cause};
 
 use crate::delivered::Delivered;
-use check::holds_together;
+use checking::holds_together;
 use sheet::buffers::Phase;
 use sheet::refusal::Refusal;
 use sheet::row::Item;
@@ -65,8 +65,8 @@ impl Delivered {
         stack: &[u16],
         weights: &[W],
     ) -> Result<(W, W), Refusal>
-        ensures answer { UnwindAnswered W.Weight (lent sheet.entry row.entry stack.entry weights.entry self.now.marks self.now.counts) answer.old answer.new result }
-        ensures faithful { UnwindFaithful W.Weight (lent sheet.entry row.entry stack.entry weights.entry self.now.marks self.now.counts) answer.new result }
+        ensures answer { UnwindAnswered W.Weight (lent sheet.now row.now stack.now weights.now self.now.marks self.now.counts) answer.old answer.new result }
+        ensures faithful { UnwindFaithful W.Weight (lent sheet.now row.now stack.now weights.now self.now.marks self.now.counts) answer.new result }
     {
         let marks = self.marks;
         let counts = self.counts;

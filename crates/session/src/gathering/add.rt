@@ -8,7 +8,7 @@ ghost use Rattle.session.specs.Adding.{AddAnswered, AddFaithful, Stored, soft_ca
 
 use crate::claim::Claim;
 use crate::gathering::Gathering;
-use check::holds_together;
+use checking::holds_together;
 use sending::{count, first_bad, is_tautology, note_all, write_words};
 use sheet::buffers::{Phase, WORDS};
 use sheet::clause::{Tag, enclose, size};
@@ -66,8 +66,8 @@ impl Gathering {
         stack: &[u16],
         weights: &mut [W],
     ) -> Result<(), Refusal>
-        ensures answer { AddAnswered W.Weight lits.now claim (lent sheet.entry row.entry stack.entry weights.entry self.old.marks self.old.counts) (lent sheet.exit row.entry stack.entry weights.exit self.new.marks self.new.counts) result }
-        ensures faithful { AddFaithful W.Weight lits.now claim (lent sheet.entry row.entry stack.entry weights.entry self.old.marks self.old.counts) (lent sheet.exit row.entry stack.entry weights.exit self.new.marks self.new.counts) result }
+        ensures answer { AddAnswered W.Weight lits.now claim (lent sheet.old row.now stack.now weights.old self.old.marks self.old.counts) (lent sheet.new row.now stack.now weights.new self.new.marks self.new.counts) result }
+        ensures faithful { AddFaithful W.Weight lits.now claim (lent sheet.old row.now stack.now weights.old self.old.marks self.old.counts) (lent sheet.new row.now stack.now weights.new self.new.marks self.new.counts) result }
     {
         if let Some(part) = holds_together(
             Phase::Gathering,

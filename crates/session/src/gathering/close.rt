@@ -5,7 +5,7 @@ ghost use Rattle.session.specs.Closing.{CloseAnswered, CloseFaithful, label_caus
 
 use crate::gathering::Gathering;
 use crate::working::Working;
-use check::holds_together;
+use checking::holds_together;
 use closing::survey::Survey;
 use sheet::buffers::{Counts, Marks, Phase};
 use sheet::refusal::Refusal;
@@ -30,8 +30,8 @@ impl Gathering {
         stack: &[u16],
         weights: &[W],
     ) -> Result<Working, (Gathering, Refusal)>
-        ensures answer { CloseAnswered W.Weight (lent sheet.entry row.entry stack.entry weights.entry self.marks self.counts) (lent sheet.exit row.exit stack.entry weights.entry) result }
-        ensures faithful { CloseFaithful W.Weight (lent sheet.entry row.entry stack.entry weights.entry self.marks self.counts) (lent sheet.exit row.exit stack.entry weights.entry) result }
+        ensures answer { CloseAnswered W.Weight (lent sheet.old row.old stack.now weights.now self.marks self.counts) (lent sheet.new row.new stack.now weights.now) result }
+        ensures faithful { CloseFaithful W.Weight (lent sheet.old row.old stack.now weights.now self.marks self.counts) (lent sheet.new row.new stack.now weights.now) result }
     {
         let marks = self.marks;
         let counts = self.counts;

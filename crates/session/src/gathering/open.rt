@@ -20,7 +20,7 @@ pub fn open<W: Weight>(
     weights: &[W],
 ) -> Result<Gathering, Refusal>
     ensures answer { Opened items row.old row.new result }
-    ensures faithful { OpenFaithful W.Weight (lent sheet.entry row.exit stack.entry weights.entry) result }
+    ensures faithful { OpenFaithful W.Weight (lent sheet.now row.new stack.now weights.now) result }
 {
     if items > MOST_ITEMS {
         return Err(Refusal::TooManyItems(items));

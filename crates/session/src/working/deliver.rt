@@ -18,7 +18,7 @@ impl Working {
         weights: &[W],
     ) -> Delivered
         ensures same { (result.marks ≡ self.marks) × (result.counts ≡ self.counts) }
-        ensures faithful { DeliverFaithful W.Weight (lent sheet.entry row.entry stack.entry weights.entry self.marks self.counts) (lent sheet.entry row.entry stack.entry weights.entry result.marks result.counts) }
+        ensures faithful { DeliverFaithful W.Weight (lent sheet.now row.now stack.now weights.now self.marks self.counts) (lent sheet.now row.now stack.now weights.now result.marks result.counts) }
     {
         Delivered::of(self.marks, self.counts)
     }

@@ -23,7 +23,7 @@ fn answer<W: Weight, R: Rule<W>>(
     counts: Counts,
     limit: u64,
 ) -> Result<Report, Refusal>
-    ensures { RunAnswered W.Weight (R.Rule.runs rule.now W.Weight.Value W.Weight.kind) limit (lent sheet.entry row.entry stack.entry weights.entry marks.old counts) (lent sheet.exit row.exit stack.exit weights.entry marks.new counts) result }
+    ensures { RunAnswered W.Weight (R.Rule.runs rule.now W.Weight.Value W.Weight.kind) limit (lent sheet.old row.old stack.old weights.now marks.old counts) (lent sheet.new row.new stack.new weights.now marks.new counts) result }
 {
     rule.run(sheet, row, stack, weights, marks, counts, limit)
 }
@@ -39,8 +39,8 @@ impl Working {
         weights: &[W],
         limit: u64,
     ) -> Result<Report, Refusal>
-        ensures answer { RunAnswered W.Weight (R.Rule.runs rule.now W.Weight.Value W.Weight.kind) limit (lent sheet.entry row.entry stack.entry weights.entry self.old.marks self.old.counts) (lent sheet.exit row.exit stack.exit weights.entry self.new.marks self.new.counts) result }
-        ensures faithful { RunFaithful W.Weight (lent sheet.entry row.entry stack.entry weights.entry self.old.marks self.old.counts) (lent sheet.exit row.exit stack.exit weights.entry self.new.marks self.new.counts) }
+        ensures answer { RunAnswered W.Weight (R.Rule.runs rule.now W.Weight.Value W.Weight.kind) limit (lent sheet.old row.old stack.old weights.now self.old.marks self.old.counts) (lent sheet.new row.new stack.new weights.now self.new.marks self.new.counts) result }
+        ensures faithful { RunFaithful W.Weight (lent sheet.old row.old stack.old weights.now self.old.marks self.old.counts) (lent sheet.new row.new stack.new weights.now self.new.marks self.new.counts) }
     {
         let counts = self.counts;
         let marks = &mut self.marks;

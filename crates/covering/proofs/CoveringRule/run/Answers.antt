@@ -8,7 +8,7 @@ use Rattle.covering.proofs.CoveringRule.run.Goals as goal
 pub loop-l-init : goal.loop-l-init
 loop-l-init g c =
     eliminating_none g.W.Weight g.met.W.Weight.lawful c.args.limit
-    (lent c.args.sheet c.args.row c.args.stack c.args.weights c.args.marks.now c.args.counts) c.in_default.ensures
+    (lent c.args.sheet.now c.args.row.now c.args.stack.now c.args.weights.now c.args.marks.now c.args.counts) c.in_default.ensures
 
 pub first_covered-requires : goal.first_covered-requires
 first_covered-requires g c =

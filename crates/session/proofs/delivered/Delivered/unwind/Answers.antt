@@ -8,7 +8,7 @@ use Rattle.session.proofs.delivered.Delivered.unwind.Goals as goal
 pub returns-in-Some : goal.returns-in-Some
 returns-in-Some g c =
     let m = g.W.Weight in
-    let b = lent c.args.sheet c.args.row c.args.stack c.args.weights c.args.self.now.marks c.args.self.now.counts in
+    let b = lent c.args.sheet.now c.args.row.now c.args.stack.now c.args.weights.now c.args.self.now.marks c.args.self.now.counts in
     let sent = c.args.answer.now in
     let e = NotTogether c.in-Some.part in
     let a : UnwindAnswered m b sent sent (Err e) = (inl (c.in-Some.part, refl, c.in-Some.ensures), refl) in
@@ -17,7 +17,7 @@ returns-in-Some g c =
 pub returns-in-Some-answer_cause : goal.returns-in-Some-answer_cause
 returns-in-Some-answer_cause g c =
     let m = g.W.Weight in
-    let b = lent c.args.sheet c.args.row c.args.stack c.args.weights c.args.self.now.marks c.args.self.now.counts in
+    let b = lent c.args.sheet.now c.args.row.now c.args.stack.now c.args.weights.now c.args.self.now.marks c.args.self.now.counts in
     let sent = c.args.answer.now in
     let e = c.in-Some-answer_cause.cause in
     let cause = sym (cause_is m b sent) ∙ sym c.answer_cause.ensures ∙ c.in-Some-answer_cause.is in
@@ -27,7 +27,7 @@ returns-in-Some-answer_cause g c =
 pub unwind_costed-requires : goal.unwind_costed-requires
 unwind_costed-requires g c =
     let m = g.W.Weight in
-    let b = lent c.args.sheet c.args.row c.args.stack c.args.weights c.args.self.now.marks c.args.self.now.counts in
+    let b = lent c.args.sheet.now c.args.row.now c.args.stack.now c.args.weights.now c.args.self.now.marks c.args.self.now.counts in
     let passes = sym c.answer_cause.ensures ∙ c.in_default-answer_cause.is in
     unwindable m g.met.W.Weight.lawful b c.in_default.ensures c.args.answer.now passes
 
@@ -35,7 +35,7 @@ pub returns : goal.returns
 returns g c =
     let m = g.W.Weight in
     let laws = g.met.W.Weight.lawful in
-    let b = lent c.args.sheet c.args.row c.args.stack c.args.weights c.args.self.now.marks c.args.self.now.counts in
+    let b = lent c.args.sheet.now c.args.row.now c.args.stack.now c.args.weights.now c.args.self.now.marks c.args.self.now.counts in
     let sent = c.args.answer.now in
     let after = c.unwind_costed.new.answer in
     let costs = c.unwind_costed.result in

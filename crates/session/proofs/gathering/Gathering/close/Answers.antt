@@ -10,7 +10,7 @@ use Rattle.session.proofs.gathering.Gathering.close.Goals as goal
 pub returns-in-Some : goal.returns-in-Some
 returns-in-Some g c =
     let m = g.W.Weight in
-    let left = lent c.args.sheet c.args.row c.args.stack c.args.weights in
+    let left = lent c.args.sheet.now c.args.row.now c.args.stack.now c.args.weights.now in
     let b = left c.args.self.marks c.args.self.counts in
     let e = NotTogether c.in-Some.part in
     let a : CloseAnswered m b left (Err (c.args.self, e)) = (inl (c.in-Some.part, refl, c.in-Some.ensures), refl) in
@@ -18,7 +18,7 @@ returns-in-Some g c =
 
 pub of-survey-requires : goal.of-survey-requires
 of-survey-requires g c =
-    let b = lent c.args.sheet c.args.row c.args.stack c.args.weights c.args.self.marks c.args.self.counts in
+    let b = lent c.args.sheet.now c.args.row.now c.args.stack.now c.args.weights.now c.args.self.marks c.args.self.counts in
     let together = c.in_default.ensures in
     let own = c.args.self.own in
     let few = c.args.self.few in
@@ -26,7 +26,7 @@ of-survey-requires g c =
 
 pub items_needed-needed-requires : goal.items_needed-needed-requires
 items_needed-needed-requires g c =
-    let b = lent c.args.sheet c.args.row c.args.stack c.args.weights c.args.self.marks c.args.self.counts in
+    let b = lent c.args.sheet.now c.args.row.now c.args.stack.now c.args.weights.now c.args.self.marks c.args.self.counts in
     let together = c.in_default.ensures in
     let own = c.args.self.own in
     let few = c.args.self.few in
@@ -42,7 +42,7 @@ items_needed-needed-requires g c =
 pub returns-in-Some-label_cause : goal.returns-in-Some-label_cause
 returns-in-Some-label_cause g c =
     let m = g.W.Weight in
-    let left = lent c.args.sheet c.args.row c.args.stack c.args.weights in
+    let left = lent c.args.sheet.now c.args.row.now c.args.stack.now c.args.weights.now in
     let b = left c.args.self.marks c.args.self.counts in
     let together = c.in_default.ensures in
     let own = c.args.self.own in
@@ -56,7 +56,7 @@ returns-in-Some-label_cause g c =
 pub close-closed-requires : goal.close-closed-requires
 close-closed-requires g c =
     let m = g.W.Weight in
-    let b = lent c.args.sheet c.args.row c.args.stack c.args.weights c.args.self.marks c.args.self.counts in
+    let b = lent c.args.sheet.now c.args.row.now c.args.stack.now c.args.weights.now c.args.self.marks c.args.self.counts in
     let together = c.in_default.ensures in
     let own = c.args.self.own in
     let few = c.args.self.few in
@@ -67,7 +67,7 @@ close-closed-requires g c =
 pub returns : goal.returns
 returns g c =
     let m = g.W.Weight in
-    let b = lent c.args.sheet c.args.row c.args.stack c.args.weights c.args.self.marks c.args.self.counts in
+    let b = lent c.args.sheet.now c.args.row.now c.args.stack.now c.args.weights.now c.args.self.marks c.args.self.counts in
     let sheet = c.close-closed.new.sheet in
     let row = c.close-closed.new.row in
     let left : Marks → Counts → Lent g.row.W.Denot = λ marks counts. record { sheet = sheet; row = row; stack = c.args.stack.now; weights = c.args.weights.now; marks = marks; counts = counts } in

@@ -5,6 +5,6 @@ use Rattle.session.proofs.working.Working.deliver.Goals as goal
 
 pub returns : goal.returns
 returns g c =
-    let left = lent c.args.sheet c.args.row c.args.stack c.args.weights in
+    let left = lent c.args.sheet.now c.args.row.now c.args.stack.now c.args.weights.now in
     let same = c.of.ensures in
     record { same = same; faithful = deliver_faithful g.W.Weight g.met.W.Weight.lawful _ _ (ap₂ left same.0 same.1) }

@@ -1,0 +1,13 @@
+use Rattle.std.proofs.ByRecursion.{All-more}
+use Rattle.std.proofs.lemmas.Bool.Decides.{not_from_Decides}
+use Rattle.checking.proofs.Passing.{refuses_all, accepts_all}
+use Rattle.checking.proofs.literals.all_literals.Goals as goal
+
+pub returns-then-not-is_literal : goal.returns-then-not-is_literal
+returns-then-not-is_literal c = refuses_all _ _ _ 0 c.loop-w-test.true (not_from_Decides _ c.is_literal.ensures c.if-not-is_literal.true)
+
+pub loop-w-preserved : goal.loop-w-preserved
+loop-w-preserved c = All-more _ _ _ 0 c.loop-w-test.true c.loop-w.invariant (c.is_literal.ensures.0 c.if-not-is_literal.false)
+
+pub returns : goal.returns
+returns c = accepts_all _ _ _ c.loop-w-test.false c.loop-w.invariant
