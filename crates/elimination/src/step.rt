@@ -38,7 +38,7 @@ pub(crate) fn eliminate(
     requires item { Eliminable x (clauses (take marks.old.sheet sheet.old)) }
     requires clear { MarksOf marked.old.table [] }
     ensures clear { MarksOf marked.new.table [] }
-    ensures step { Eliminated x (record { sheet = sheet.entry.now; stack = stack.old; marks = marks.old }) (record { sheet = sheet.exit.now; stack = stack.new; marks = marks.new }) result }
+    ensures step { Eliminated x (record { sheet = sheet.old; stack = stack.old; marks = marks.old }) (record { sheet = sheet.new; stack = stack.new; marks = marks.new }) result }
 {
     let undo = guard(marks);
     let fill = undo.marks.sheet;
