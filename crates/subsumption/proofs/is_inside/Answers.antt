@@ -1,4 +1,5 @@
-use Rattle.std.proofs.Common.{◌≡◌, ◌+◌, length, drop, sym, ap, ◌∙◌, arith}
+use Rattle.std.proofs.lemmas.Cmp.{ranked}
+use Rattle.std.proofs.Common.{Less, Equal, Greater, get_or, ◌≡◌, ◌+◌, length, drop, sym, ap, ◌∙◌, arith}
 use Rattle.std.proofs.lemmas.List.{at_drop_all}
 use Rattle.steps.specs.Rewriting.{inside}
 use Rattle.subsumption.proofs.Insides.{inside_past, inside_stop, inside_behind, inside_both}
@@ -11,7 +12,7 @@ returns-then-j-sup c =
 
 pub returns-in-Less : goal.returns-in-Less
 returns-in-Less c =
-    sym (inside_stop c.args.sub.now c.args.sup.now c.loop-i.i c.loop-i.j c.loop-i-test.true (omega arith) c.requires.sup c.in-Less.ensures) ∙ c.loop-i.invariant.2
+    sym (inside_stop c.args.sub.now c.args.sup.now c.loop-i.i c.loop-i.j c.loop-i-test.true (omega arith) c.requires.sup (ranked (get_or c.args.sub.now c.loop-i.i 0) (get_or c.args.sup.now c.loop-i.j 0) Less c.in-Less.ensures)) ∙ c.loop-i.invariant.2
 
 pub loop-i-preserved : goal.loop-i-preserved
 loop-i-preserved c =
@@ -24,12 +25,12 @@ loop-i-preserved c =
       | in-Equal w ↦ (
         omega (arith, w.i-is),
         omega arith,
-        ap (λ n. inside (drop n xs) (drop (j + 1) ys)) w.i-is ∙ sym (inside_both xs ys i j some (omega arith) c.requires.sub w.in-Equal.ensures) ∙ c.loop-i.invariant.2,
+        ap (λ n. inside (drop n xs) (drop (j + 1) ys)) w.i-is ∙ sym (inside_both xs ys i j some (omega arith) c.requires.sub (ranked (get_or xs i 0) (get_or ys j 0) Equal w.in-Equal.ensures)) ∙ c.loop-i.invariant.2,
       )
       | in-Greater w ↦ (
         omega (arith, w.i-is),
         omega arith,
-        ap (λ n. inside (drop n xs) (drop (j + 1) ys)) w.i-is ∙ sym (inside_behind xs ys i j some (omega arith) c.requires.sub w.in-Greater.ensures) ∙ c.loop-i.invariant.2,
+        ap (λ n. inside (drop n xs) (drop (j + 1) ys)) w.i-is ∙ sym (inside_behind xs ys i j some (omega arith) c.requires.sub (ranked (get_or xs i 0) (get_or ys j 0) Greater w.in-Greater.ensures)) ∙ c.loop-i.invariant.2,
       )
     ]
 

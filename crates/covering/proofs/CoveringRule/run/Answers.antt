@@ -26,6 +26,11 @@ retire-requires g c =
     let found = c.in-Some-first_covered.ensures in
     record { low = label_low g.W.Weight _ still l found; high = label_high g.W.Weight _ still l found }
 
+pub overflow_add-from : goal.overflow_add-from
+overflow_add-from g c =
+    let below = low g.W.Weight _ c.loop-l.invariant.loop.still c.in-Some-first_covered.l c.in-Some-first_covered.ensures in
+    omega (arith, below)
+
 pub loop-l-preserved : goal.loop-l-preserved
 loop-l-preserved g c =
     let spent = c.loop-l.invariant.loop.turning.spent in

@@ -56,8 +56,8 @@ store-requires g c =
     let short : length (normal zs) ≤ 4000 = normal_short _ zs c.args.self.now.few (none_bad _ 0 zs good) in
     record { long = search rules; few = subst (λ ws. length ws ≤ 4000) (sym c.note_all.ensures) short; fits = c.in_default.ensures.sheet.fits }
 
-pub returns-in_err-self : goal.returns-in_err-self
-returns-in_err-self g c =
+pub returns-in_err-self-in-Hard : goal.returns-in_err-self-in-Hard
+returns-in_err-self-in-Hard g c =
     let m = g.W.Weight in
     let zs = c.args.lits.now in
     let claim = c.args.claim in
@@ -67,10 +67,10 @@ returns-in_err-self g c =
     let good : bad_place c.args.self.now.counts.callers c.args.lits.now ≡ None = sym c.first_bad.ensures ∙ c.in_default-first_bad.is in
     let plain : tautology (normal zs) ≡ false = ap tautology (sym c.note_all.ensures) ∙ sym c.is_tautology.ensures ∙ c.if-is_tautology.false in
     let few = c.args.self.now.few in
-    let e = c.in_err-self.field-0.0 in
+    let e = c.in_err-self-in-Hard.field-0.0 in
     let after : Lent g.row.W.Denot = record { sheet = c.store.new.sheet; row = c.args.row.now; stack = c.args.stack.now; weights = c.args.weights.now; marks = marks; counts = counts } in
     let p = err_from_is_err_and c.from_residual.result c.from_residual.ensures.1 in
-    let told : AddAnswered m zs claim b after (Err e) = hard_refused m b zs claim c.in_default.ensures good few plain (words_of c.note_all.new.flags) c.note_all.ensures c.store.new.sheet c.in-Hard.is e c.in_err-self.ensures in
+    let told : AddAnswered m zs claim b after (Err e) = hard_refused m b zs claim c.in_default.ensures good few plain (words_of c.note_all.new.flags) c.note_all.ensures c.store.new.sheet c.in-Hard.is e c.in_err-self-in-Hard.ensures in
     let a : AddAnswered m zs claim b after c.from_residual.result = subst (AddAnswered m zs claim b after) (sym (p.1 ∙ ap (λ x. Err x) p.2)) told in
     record { answer = a; faithful = add_faithful m g.met.W.Weight.lawful b zs claim after c.from_residual.result c.args.self.now.kept a }
 
@@ -94,8 +94,8 @@ store-requires-in-Soft g c =
     let short : length (normal zs) ≤ 4000 = normal_short _ zs c.args.self.now.few (none_bad _ 0 zs good) in
     record { long = search rules; few = subst (λ ws. length ws ≤ 4000) (sym c.note_all.ensures) short; fits = c.in_default.ensures.sheet.fits }
 
-pub returns-in_err-self-2 : goal.returns-in_err-self-2
-returns-in_err-self-2 g c =
+pub returns-in_err-self-in-Soft : goal.returns-in_err-self-in-Soft
+returns-in_err-self-in-Soft g c =
     let m = g.W.Weight in
     let zs = c.args.lits.now in
     let claim = c.args.claim in
@@ -105,15 +105,15 @@ returns-in_err-self-2 g c =
     let good : bad_place c.args.self.now.counts.callers c.args.lits.now ≡ None = sym c.first_bad.ensures ∙ c.in_default-first_bad.is in
     let plain : tautology (normal zs) ≡ false = ap tautology (sym c.note_all.ensures) ∙ sym c.is_tautology.ensures ∙ c.if-is_tautology.false in
     let few = c.args.self.now.few in
-    let e = c.in_err-self-2.field-0.0 in
+    let e = c.in_err-self-in-Soft.field-0.0 in
     let after : Lent g.row.W.Denot = record { sheet = c.store-in-Soft.new.sheet; row = c.args.row.now; stack = c.args.stack.now; weights = c.args.weights.now; marks = marks; counts = counts } in
-    let p = err_from_is_err_and c.from_residual-in_err-self-2.result c.from_residual-in_err-self-2.ensures.1 in
-    let told : AddAnswered m zs claim b after (Err e) = soft_refused m b zs claim c.in_default.ensures good few plain (words_of c.note_all.new.flags) c.note_all.ensures c.store-in-Soft.new.sheet c.in-Soft.w c.in-Soft.is (sym c.soft_cause.ensures ∙ c.in_default-soft_cause.is) e c.in_err-self-2.ensures in
-    let a : AddAnswered m zs claim b after c.from_residual-in_err-self-2.result = subst (AddAnswered m zs claim b after) (sym (p.1 ∙ ap (λ x. Err x) p.2)) told in
-    record { answer = a; faithful = add_faithful m g.met.W.Weight.lawful b zs claim after c.from_residual-in_err-self-2.result c.args.self.now.kept a }
+    let p = err_from_is_err_and c.from_residual-in_err-self-in-Soft.result c.from_residual-in_err-self-in-Soft.ensures.1 in
+    let told : AddAnswered m zs claim b after (Err e) = soft_refused m b zs claim c.in_default.ensures good few plain (words_of c.note_all.new.flags) c.note_all.ensures c.store-in-Soft.new.sheet c.in-Soft.w c.in-Soft.is (sym c.soft_cause.ensures ∙ c.in_default-soft_cause.is) e c.in_err-self-in-Soft.ensures in
+    let a : AddAnswered m zs claim b after c.from_residual-in_err-self-in-Soft.result = subst (AddAnswered m zs claim b after) (sym (p.1 ∙ ap (λ x. Err x) p.2)) told in
+    record { answer = a; faithful = add_faithful m g.met.W.Weight.lawful b zs claim after c.from_residual-in_err-self-in-Soft.result c.args.self.now.kept a }
 
-pub returns-in_ok-self : goal.returns-in_ok-self
-returns-in_ok-self g c =
+pub returns-in_ok-self-in-Hard : goal.returns-in_ok-self-in-Hard
+returns-in_ok-self-in-Hard g c =
     let m = g.W.Weight in
     let zs = c.args.lits.now in
     let claim = c.args.claim in
@@ -123,13 +123,13 @@ returns-in_ok-self g c =
     let good : bad_place c.args.self.now.counts.callers c.args.lits.now ≡ None = sym c.first_bad.ensures ∙ c.in_default-first_bad.is in
     let plain : tautology (normal zs) ≡ false = ap tautology (sym c.note_all.ensures) ∙ sym c.is_tautology.ensures ∙ c.if-is_tautology.false in
     let few = c.args.self.now.few in
-    let end = c.in_ok-self.field-0 in
+    let end = c.in_ok-self-in-Hard.field-0 in
     let after : Lent g.row.W.Denot = record { sheet = c.store.new.sheet; row = c.args.row.now; stack = c.args.stack.now; weights = c.args.weights.now; marks = record { sheet = end; stack = marks.stack }; counts = counts } in
-    let a : AddAnswered m zs claim b after (Ok tt) = hard_stored m b zs claim c.in_default.ensures good few plain (words_of c.note_all.new.flags) c.note_all.ensures c.store.new.sheet c.in-Hard.is end c.in_ok-self.ensures in
+    let a : AddAnswered m zs claim b after (Ok tt) = hard_stored m b zs claim c.in_default.ensures good few plain (words_of c.note_all.new.flags) c.note_all.ensures c.store.new.sheet c.in-Hard.is end c.in_ok-self-in-Hard.ensures in
     record { answer = a; faithful = add_faithful m g.met.W.Weight.lawful b zs claim after (Ok tt) c.args.self.now.kept a }
 
-pub returns-in_ok-self-2 : goal.returns-in_ok-self-2
-returns-in_ok-self-2 g c =
+pub returns-in_ok-self-in-Soft : goal.returns-in_ok-self-in-Soft
+returns-in_ok-self-in-Soft g c =
     let m = g.W.Weight in
     let zs = c.args.lits.now in
     let claim = c.args.claim in
@@ -139,7 +139,7 @@ returns-in_ok-self-2 g c =
     let good : bad_place c.args.self.now.counts.callers c.args.lits.now ≡ None = sym c.first_bad.ensures ∙ c.in_default-first_bad.is in
     let plain : tautology (normal zs) ≡ false = ap tautology (sym c.note_all.ensures) ∙ sym c.is_tautology.ensures ∙ c.if-is_tautology.false in
     let few = c.args.self.now.few in
-    let end = c.in_ok-self-2.field-0 in
+    let end = c.in_ok-self-in-Soft.field-0 in
     let after : Lent g.row.W.Denot = record { sheet = c.store-in-Soft.new.sheet; row = c.args.row.now; stack = c.args.stack.now; weights = set c.args.weights.now counts.softs c.in-Soft.w; marks = record { sheet = end; stack = marks.stack }; counts = record { callers = counts.callers; items = counts.items; softs = counts.softs + 1 } } in
-    let a : AddAnswered m zs claim b after (Ok tt) = soft_stored m b zs claim c.in_default.ensures good few plain (words_of c.note_all.new.flags) c.note_all.ensures c.store-in-Soft.new.sheet c.in-Soft.w c.in-Soft.is (sym c.soft_cause.ensures ∙ c.in_default-soft_cause.is) end c.in_ok-self-2.ensures in
+    let a : AddAnswered m zs claim b after (Ok tt) = soft_stored m b zs claim c.in_default.ensures good few plain (words_of c.note_all.new.flags) c.note_all.ensures c.store-in-Soft.new.sheet c.in-Soft.w c.in-Soft.is (sym c.soft_cause.ensures ∙ c.in_default-soft_cause.is) end c.in_ok-self-in-Soft.ensures in
     record { answer = a; faithful = add_faithful m g.met.W.Weight.lawful b zs claim after (Ok tt) c.args.self.now.kept a }
