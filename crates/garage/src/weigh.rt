@@ -9,6 +9,7 @@ ghost use Rattle.garage.specs.Weighing.{broken, in_order};
 
 use crate::kinds::Weighting;
 use crate::level::{Plan, Wish};
+use anyhow::Context;
 use std::alloc::{AllocError, Global};
 use std::cmp::Ordering;
 use weight::{TooLarge, Weight, total};
@@ -21,7 +22,7 @@ fn broken_weights<W: Weighting>(
     plan: &Plan,
     wishes: &[Wish],
 ) -> Result<Vec<W>, AllocError>
-    ensures { IfOk result (λ v. v.items ≡ broken given plan.now.bays wishes.now) }
+    ensures { IfOk result (λ v. v.items ≡ broken W.Weighting.given plan.now.bays wishes.now) }
 {
     let mut weights = Vec::new(heap);
     for wish in wishes {
@@ -34,10 +35,10 @@ fn broken_weights<W: Weighting>(
 
 // What a plan pays, exactly.
 pub fn cost<W: Weighting>(heap: Global, plan: &Plan, wishes: &[Wish]) -> anyhow::Result<W>
-    ensures { IfOk result (λ w. W.Weight.value w ≡ total_in W.Weight (broken given plan.now.bays wishes.now)) }
+    ensures { IfOk result (λ w. W.Weight.value w ≡ total_in W.Weight (broken W.Weighting.given plan.now.bays wishes.now)) }
 {
     let weights = broken_weights::<W>(heap, plan, wishes)?;
-    let cost = total(&weights).ok().ok_or(TOO_LARGE)?;
+    let cost = total(&weights).ok().context(TOO_LARGE)?;
     Ok(cost)
 }
 
@@ -74,7 +75,7 @@ impl<W: Weighting> Tally<W> {
 
     pub fn plus(&self, weight: &W) -> Result<Tally<W>, TooLarge>
         ensures exact { ExactOrTooLarge W.Weight.kind (λ t. W.Weight.value t.exact) (W.Weight.kind.sum (W.Weight.value self.now.exact) (W.Weight.value weight.now)) result }
-        ensures single { IfOk result (λ t. t.single ≡ add binary32 self.now.single (rounded weight.now)) }
+        ensures single { IfOk result (λ t. t.single ≡ add binary32 self.now.single (W.Weighting.rounded weight.now)) }
     {
         let exact = self.exact.plus(weight)?;
         let single = self.single + weight.single();

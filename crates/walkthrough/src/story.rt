@@ -122,7 +122,7 @@ fn walk<W: Weighting>(rt: &HostRuntime, plan: &Plan) -> anyhow::Result<Tally<W>>
         let weight = W::of(wish);
         let kept = plan.keeps(wish);
         if !kept {
-            tally = tally.plus(&weight).ok().ok_or(TOO_LARGE)?;
+            tally = tally.plus(&weight).ok().context(TOO_LARGE)?;
         }
         show_wish(rt, i + 1, wish, kept, &weight, &tally)?;
     }
