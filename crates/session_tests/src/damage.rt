@@ -214,7 +214,10 @@ fn strange_buffers_may_hold_together(rt: HostRuntime) -> Result<(), Fail> {
     let g = fails(&rt, g, 1, &mut sheet, &mut row, &mut weights)?;
     row[3] = PLAIN;
     closed(&rt, g, &mut sheet, &mut row, &weights)?;
-    assert_eq!(rt; &sheet[0..8], &[12290, 1, 2, 12290, 2, 5, 12289, 4]);
+    assert_eq!(rt;
+        &sheet[0..8],
+        [12290, 1, 2, 12290, 2, 5, 12289, 4].as_slice()
+    );
     assert_eq!(rt; row, [PLAIN, PLAIN, label(1), PLAIN, label(0)]);
     Ok(())
 }

@@ -1,4 +1,5 @@
 // What the program says, from the garage to the verdict.
+use anyhow::Context;
 use garage::figures::{Grouped, Text};
 use garage::kinds::Weighting;
 use garage::level::{BAYS, HOLDERS, NORTH, Plan, SOUTH, WISHES, Wish};
