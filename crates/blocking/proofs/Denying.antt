@@ -1,13 +1,13 @@
 -- Another literal denied, seen from either clause, and one pass over the clause that denies. Assumes nothing.
-use Rattle.std.proofs.Common.{◌≡◌, ℕ, zero, suc, ◌+◌, ◌<◌, ◌≤◌, Bool, true, false, not, ◌&&◌, ◌||◌, eqb, List, [], ◌∷◌, length, get_or, drop, sym, refl, ap, ◌∙◌, subst, inl, inr, arith}
+use Rattle.std.proofs.Common.{◌≡◌, ℕ, suc, ◌+◌, ◌<◌, ◌≤◌, Bool, true, false, not, ◌&&◌, ◌||◌, eqb, List, [], ◌∷◌, length, get_or, drop, sym, refl, ap, ◌∙◌, subst, inl, inr, arith}
 use Rattle.std.proofs.lemmas.List.{at_drop_more, at_drop_all, get_or_past}
-use Rattle.std.proofs.lemmas.Bool.{and_from, and_parts, both_ways, cases_lt, eqb-false, ne_eqb, not-true, not_from_false, true≢false}
+use Rattle.std.proofs.lemmas.Bool.{and_from, and_parts, cases_lt, eqb-false, ne_eqb, not-true, not_from_false}
 use Rattle.sheet.specs.declared.clause.Tag.TheVariants.{Working}
 use Rattle.sheet.specs.declared.row.Item.{Item}
-use Rattle.sheet.specs.Literals.{item_of, opposite, has}
+use Rattle.sheet.specs.Literals.{opposite, has}
 use Rattle.steps.specs.Places.{some}
 use Rattle.steps.specs.Rewriting.{plain_at, plain_lit}
-use Rattle.steps.specs.Blocking.{denies_other, blocks}
+use Rattle.steps.specs.Blocking.{denies_other}
 use Rattle.steps.proofs.Members.{In, some_in, some_from, has_in, in_has, lacks_in}
 use Rattle.steps.proofs.Opposites.{opposite_item, opposite_opposite}
 use Rattle.marking.specs.Marks.{MarksOf}

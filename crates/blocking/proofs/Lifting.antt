@@ -7,14 +7,14 @@ use Rattle.std.proofs.lemmas.List.{length-append, length-take-le}
 use Rattle.std.proofs.lemmas.Bool.{leb-true}
 use Rattle.weight.specs.Kind.{Lawful}
 use Rattle.weight.specs.declared.kind.Weight.{Ghosts}
-use Rattle.sheet.specs.Clauses.{Clause, Laid, clauses}
+use Rattle.sheet.specs.Clauses.{Laid, clauses}
 use Rattle.sheet.specs.ClauseSteps.{placed}
-use Rattle.sheet.specs.Records.{Record, ValidRecord, record_words, encode_stack, records}
+use Rattle.sheet.specs.Records.{ValidRecord, record_words, encode_stack, records}
 use Rattle.sheet.specs.Sheets.{Sheet, Lent, decoded, used_clauses, used_row}
 use Rattle.sheet.proofs.Signs.{has_place}
 use Rattle.sheet.proofs.Stacking.{stacked_words, stacked_pushed, records_pushed}
 use Rattle.meaning.specs.declared.report.Ending.TheVariants.{Done, Limit, Full}
-use Rattle.steps.specs.Blocking.{Blocked, first_blocked, block_record, blocked_out, blocking, block_fits, BlockingRuns}
+use Rattle.steps.specs.Blocking.{Blocked, first_blocked, blocked_out, blocking, block_fits, BlockingRuns}
 use Rattle.steps.specs.Rooms.{Room, room_of}
 use Rattle.steps.proofs.Blocked.{blocking_keeps}
 use Rattle.rules.specs.Answering.{Went}

@@ -1,5 +1,5 @@
 -- The search goes on behind the label that was covered: no lower label becomes covered by that. Assumes nothing.
-use Rattle.std.proofs.Common.{◌≡◌, ℕ, zero, suc, ◌+◌, ◌-◌, ◌<◌, ◌≤◌, Bool, true, false, cond, not, ◌&&◌, ◌||◌, eqb, List, [], ◌∷◌, map, length, is_some, Some, None, Option, sym, refl, ap, ◌∙◌, subst, ap₂, inl, inr, add-one, arith}
+use Rattle.std.proofs.Common.{◌≡◌, ℕ, zero, suc, ◌+◌, ◌-◌, ◌<◌, ◌≤◌, Bool, true, false, cond, not, ◌&&◌, ◌||◌, eqb, List, [], ◌∷◌, map, length, is_some, Some, None, sym, refl, ap, ◌∙◌, subst, ap₂, inl, inr, add-one, arith}
 use Rattle.std.proofs.lemmas.List.{length-set}
 use Rattle.std.proofs.lemmas.Bool.{and_cases, and_left, both_ways, cases_Bool, cases_eq, cases_lt, cond-false, cond-true, eqb-true, ne_eqb}
 use Rattle.weight.specs.Kind.{Kind}
@@ -8,7 +8,7 @@ use Rattle.sheet.specs.Literals.{has}
 use Rattle.sheet.specs.Rows.{live_at, item_at}
 use Rattle.sheet.specs.Sheets.{Sheet}
 use Rattle.sheet.specs.declared.row.Standing.TheVariants.{Covered}
-use Rattle.steps.specs.Covering.{covers, covered_out, is_covered, label_weight, stands}
+use Rattle.steps.specs.Covering.{covers, covered_out, is_covered, stands}
 use Rattle.steps.specs.Places.{every, lowest_item, nameable}
 use Rattle.steps.specs.Rewriting.{but, is_payable, lacking, payable_at}
 use Rattle.steps.proofs.Aging.{retired_here, retired_other}

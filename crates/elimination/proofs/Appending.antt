@@ -1,16 +1,16 @@
 -- Words written behind a mark, part by part: what is written and what is left make up the whole. Assumes nothing.
-use Rattle.std.proofs.Common.{◌≡◌, ℕ, ◌+◌, ◌-◌, ◌<◌, ◌≤◌, Bool, true, false, ◌&&◌, leb, ◌⊎◌, List, [], ◌∷◌, ◌++◌, length, take, drop, set, Some, None, sym, refl, ap, ◌∙◌, subst, inl, inr, ⊎_elim, arith}
+use Rattle.std.proofs.Common.{◌≡◌, ℕ, ◌+◌, ◌<◌, ◌≤◌, Bool, true, false, ◌&&◌, leb, List, [], ◌∷◌, ◌++◌, length, take, drop, Some, sym, refl, ap, ◌∙◌, subst, inl, inr, arith}
 use Rattle.std.specs.List.{between}
 use Rattle.std.proofs.lemmas.List.{append_assoc, append-nil, length-append, length-take-le, take-take, take_at, drop_at}
 use Rattle.std.proofs.lemmas.Slice.{between_is}
-use Rattle.std.proofs.lemmas.Bool.{and_parts, and_from, and_cases, and_left, and_right, le-leb, lt-leb, leb-true, leb-false}
+use Rattle.std.proofs.lemmas.Bool.{and_cases, and_left, and_right, lt-leb, leb-false}
 use Rattle.sheet.specs.declared.clause.Place.{Place}
 use Rattle.sheet.specs.Clauses.{Clause, encode}
-use Rattle.sheet.specs.ClauseSteps.{Step, placed}
+use Rattle.sheet.specs.ClauseSteps.{Step}
 use Rattle.sheet.proofs.Laying.{encode_append}
 use Rattle.steps.specs.Places.{every}
 use Rattle.steps.specs.Elimination.{is_counted}
-use Rattle.elimination.specs.Writing.{Appended, Wrote, clauses_room, WroteClauses}
+use Rattle.elimination.specs.Writing.{Appended, clauses_room, WroteClauses}
 
 -- Buffers that agree before a mark.
 

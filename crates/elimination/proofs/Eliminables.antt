@@ -1,6 +1,5 @@
 -- On a sheet that holds together the resolvents and the records of an item follow the layout. Assumes nothing.
-use Rattle.std.proofs.Common.{◌≡◌, ℕ, ◌<◌, true, false, ◌||◌, List, length, sym, refl, ◌∙◌, subst, arith}
-use Rattle.std.specs.List.{AllByRecursion as All}
+use Rattle.std.proofs.Common.{◌≡◌, ℕ, ◌<◌, true, ◌||◌, length, sym, refl, subst, arith}
 use Rattle.std.proofs.lemmas.Bool.{ltb-true, not_from_false, or_from}
 use Rattle.weight.specs.Kind.{Kind}
 use Rattle.sheet.specs.Literals.{opposite, has}
@@ -12,7 +11,7 @@ use Rattle.steps.specs.Rewriting.{having}
 use Rattle.steps.specs.Elimination.{resolvents, lacks_both, elimination_record, elimination_records, is_counted}
 use Rattle.steps.proofs.Members.{In, all_from_in, in_map, not_in_lacks}
 use Rattle.steps.proofs.Opposites.{opposite_item}
-use Rattle.steps.proofs.Holding.{ClauseHolds, clause_holds, record_valid}
+use Rattle.steps.proofs.Holding.{clause_holds, record_valid}
 use Rattle.steps.proofs.Resolvents.{resolvent_apart, resolvent_holds, in_having, in_resolvents}
 use Rattle.elimination.specs.Eliminating.{Eliminable}
 

@@ -1,5 +1,5 @@
 -- What stands on sheet and stack once the resolvents and the records are written and the clauses of the item are gone. Assumes nothing.
-use Rattle.std.proofs.Common.{◌≡◌, ℕ, ◌+◌, ◌<◌, ◌≤◌, min, Bool, true, false, ◌&&◌, leb, List, [], ◌∷◌, ◌++◌, length, take, Some, None, filter, sym, refl, ap, ◌∙◌, subst, ap₂, arith}
+use Rattle.std.proofs.Common.{◌≡◌, ℕ, ◌+◌, ◌≤◌, min, Bool, true, leb, List, [], ◌∷◌, ◌++◌, length, take, Some, filter, sym, refl, ap, ◌∙◌, subst, ap₂, arith}
 use Rattle.std.specs.List.{AllByRecursion as All}
 use Rattle.std.proofs.lemmas.List.Elements.{filter-append}
 use Rattle.std.proofs.ByRecursion.{All-append}
@@ -7,13 +7,12 @@ use Rattle.std.proofs.lemmas.Bool.{and_parts, and_from, cond-true, le-leb}
 use Rattle.sheet.specs.declared.buffers.Marks.{Marks}
 use Rattle.sheet.specs.Clauses.{Clause, Laid, Valid, clauses, encode}
 use Rattle.sheet.specs.Records.{Record, Stacked, ValidRecord, records, encode_stack}
-use Rattle.sheet.specs.Sheets.{Fits}
 use Rattle.sheet.proofs.Laying.{laid_append, laid_encode, clauses_append, clauses_encode}
 use Rattle.sheet.proofs.Stacking.{encode_stack_append, records_encode, stacked_encode, stacked_valid, stacked_words}
 use Rattle.steps.specs.Places.{every}
 use Rattle.steps.specs.Elimination.{resolvents, lacks_both, elimination_records, is_counted}
 use Rattle.elimination.specs.Eliminating.{Eliminable, Words, clauses_of, step_fits, Made}
-use Rattle.elimination.specs.Writing.{Appended, Wrote, WroteClauses}
+use Rattle.elimination.specs.Writing.{Wrote, WroteClauses}
 
 all_counted : (cs : List Clause) → every is_counted cs ≡ true → All (λ c. is_counted c ≡ true → Valid c) cs → All Valid cs
 all_counted [] few valid = tt

@@ -1,12 +1,12 @@
 -- The resolvents of a clause, and of all clauses with an item, one clause after another. Assumes nothing.
-use Rattle.std.proofs.Common.{◌≡◌, ℕ, ◌+◌, ◌<◌, ◌≤◌, Bool, true, false, cond, not, ◌&&◌, List, [], ◌∷◌, ◌++◌, map, length, filter, sym, refl, ap, ◌∙◌, subst, arith}
+use Rattle.std.proofs.Common.{◌≡◌, ℕ, ◌+◌, Bool, true, false, ◌&&◌, List, [], ◌∷◌, ◌++◌, map, length, filter, sym, refl, ap, ◌∙◌, arith}
 use Rattle.std.specs.List.{flat_map}
 use Rattle.std.proofs.lemmas.List.{length-append}
 use Rattle.std.proofs.lemmas.Bool.{cond-true, cond-false, and_parts}
 use Rattle.sheet.specs.Literals.{opposite, has}
 use Rattle.sheet.specs.Clauses.{Clause}
 use Rattle.steps.specs.Rewriting.{has_lit, having}
-use Rattle.steps.specs.Elimination.{resolves, resolvent, resolvents_of, resolvents}
+use Rattle.steps.specs.Elimination.{resolves, resolvent, resolvents_of}
 use Rattle.elimination.specs.Resolving.{working, pairs_with, resolvents_in}
 
 module _ (x : ℕ) (c d : Clause) (ds : List Clause) where

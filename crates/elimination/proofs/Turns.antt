@@ -1,20 +1,17 @@
 -- A turn of the loop that eliminates one item after another: how it ends, and the buffers behind it. Assumes nothing.
-use Rattle.std.proofs.Common.{◌≡◌, ℕ, zero, suc, ◌+◌, ◌-◌, ◌<◌, ◌≤◌, min, Bool, true, false, ◌&&◌, leb, List, [], ◌∷◌, ◌++◌, length, take, drop, set, Some, None, Option, sym, refl, ap, ◌∙◌, subst, ap₂, arith}
+use Rattle.std.proofs.Common.{◌≡◌, ℕ, zero, suc, ◌+◌, ◌-◌, ◌<◌, ◌≤◌, min, true, false, ◌&&◌, leb, List, length, take, set, Some, None, Option, sym, refl, ap, ◌∙◌, subst, ap₂, arith}
 use lib.Seq.{take-set-lt}
 use Rattle.std.specs.Option.{option_map}
 use Rattle.std.proofs.lemmas.List.{drop-set-lt, get_or-take, length-set, length-take-le}
-use Rattle.std.proofs.lemmas.Bool.{and_parts}
 use Rattle.weight.specs.Kind.{Lawful}
 use Rattle.weight.specs.declared.kind.Weight.{Ghosts}
 use Rattle.sheet.specs.declared.buffers.Marks.{Marks}
-use Rattle.sheet.specs.declared.buffers.Phase.TheVariants.{Working as at-work}
 use Rattle.sheet.specs.declared.row.Item.{Item}
 use Rattle.sheet.specs.declared.row.Standing.TheVariants.{Fixed}
 use Rattle.sheet.specs.Rows.{item_at}
 use Rattle.sheet.specs.Clauses.{Clause, Laid, clauses, encode}
 use Rattle.sheet.specs.Records.{Record, Stacked, records, encode_stack}
 use Rattle.sheet.specs.Sheets.{Sheet, Lent, used_clauses, used_row, used_records, decoded}
-use Rattle.sheet.specs.Together.{HoldsTogether}
 use Rattle.sheet.proofs.Laying.{encode_laid}
 use Rattle.sheet.proofs.Stacking.{stacked_words}
 use Rattle.meaning.specs.declared.report.Ending.TheVariants.{Done, Limit, Full}
@@ -27,7 +24,7 @@ use Rattle.steps.proofs.Placing.{item_place}
 use Rattle.rules.specs.Answering.{Went}
 use Rattle.rules.proofs.Holding.{Framed, framed, holds, together}
 use Rattle.rules.proofs.Piles.{report}
-use Rattle.rules.proofs.Stepping.{Follows, Stepping, stepping_done, stepping_limit, stepping_full, stepping_more}
+use Rattle.rules.proofs.Stepping.{Stepping, stepping_done, stepping_limit, stepping_full, stepping_more}
 use Rattle.elimination.specs.Eliminating.{Eliminable, Words, step_fits, Made, GivenUp}
 use Rattle.elimination.proofs.Eliminables.{eliminable}
 

@@ -1,8 +1,8 @@
 -- A walk over the first words of a sheet that writes clauses behind them. Assumes nothing.
-use Rattle.std.proofs.Common.{◌≡◌, ℕ, ◌+◌, ◌<◌, ◌≤◌, Bool, true, false, List, [], ◌∷◌, ◌++◌, length, take, Some, None, sym, refl, ap, ◌∙◌, subst, arith}
+use Rattle.std.proofs.Common.{◌≡◌, ℕ, ◌≤◌, List, [], ◌∷◌, ◌++◌, length, take, Some, None, sym, ap, ◌∙◌, subst, arith}
 use Rattle.std.specs.List.{between}
 use Rattle.sheet.specs.declared.clause.Place.{Place}
-use Rattle.sheet.specs.Clauses.{Clause, Laid, clauses, encode}
+use Rattle.sheet.specs.Clauses.{Clause, Laid, clauses}
 use Rattle.sheet.specs.ClauseSteps.{Step, placed}
 use Rattle.sheet.proofs.Cuts.{between_zero}
 use Rattle.sheet.proofs.Cursors.{clauses_end}

@@ -1,5 +1,5 @@
 -- When a plan keeps a wish. A plan is the bay of each holder. Assumes nothing.
-use Rattle.std.specs.Prelude.{ℕ, suc, ◌+◌, ◌-◌, ◌/◌, ◌%◌, Bool, true, false, not, ◌&&◌, ◌||◌, List, [], ◌∷◌, ℤ, pos, negsuc, ◌==◌, nat_lt, slice_index}
+use Rattle.std.specs.Prelude.{ℕ, suc, ◌+◌, ◌-◌, ◌/◌, ◌%◌, Bool, false, not, ◌&&◌, ◌||◌, List, [], ◌∷◌, ℤ, pos, negsuc, ◌==◌, nat_lt, slice_index}
 
 -- Item 4 * h + b, for h from 0 and b from 1 to 4: the holder at h has bay b. No bay is 0, so a holder that is not there has none.
 abbrev pub parked : List ℕ → ℕ → Bool

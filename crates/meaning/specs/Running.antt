@@ -7,7 +7,7 @@ use Rattle.sheet.specs.declared.clause.Tag.TheVariants.{Working}
 use Rattle.sheet.specs.declared.row.Item.{Item}
 use Rattle.sheet.specs.Literals.{Literal, item_of}
 use Rattle.sheet.specs.Rows.{item_at, live_at, label_at, label_ordinals}
-use Rattle.sheet.specs.Clauses.{Clause, Valid}
+use Rattle.sheet.specs.Clauses.{Valid}
 use Rattle.sheet.specs.Records.{Record, ValidRecord}
 use Rattle.sheet.specs.Sheets.{Sheet}
 use Rattle.sheet.specs.Together.{Stands, Distinct, OrdinalOf}

@@ -1,5 +1,5 @@
 -- Whether some clause, or every clause, passes a test, by a cursor over the words of clauses. Assumes nothing.
-use Rattle.std.proofs.Common.{◌≡◌, ℕ, ◌≤◌, Bool, true, false, ◌&&◌, ◌||◌, List, sym, ap, ◌∙◌}
+use Rattle.std.proofs.Common.{◌≡◌, ℕ, ◌≤◌, Bool, true, false, ◌&&◌, ◌||◌, List, ap, ◌∙◌}
 use Rattle.std.specs.List.{between}
 use Rattle.sheet.specs.declared.clause.Place.{Place}
 use Rattle.sheet.specs.Clauses.{Clause, clauses}

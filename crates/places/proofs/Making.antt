@@ -1,5 +1,5 @@
 -- What is made at the first place is made of the first spot. Assumes nothing.
-use Rattle.std.proofs.Common.{◌≡◌, ℕ, Bool, List, [], ◌∷◌, ◌++◌, Some, None, Option, sym, refl, ap, ◌∙◌}
+use Rattle.std.proofs.Common.{◌≡◌, ℕ, Bool, List, [], ◌∷◌, ◌++◌, Some, None, Option, refl}
 use Rattle.std.specs.Option.{option_map, option_or}
 use Rattle.sheet.specs.Clauses.{Clause}
 use Rattle.steps.specs.Places.{first_made, first_word}

@@ -1,5 +1,5 @@
 -- A search over literals, and one over clauses, each by a cursor: what is left of the search is the whole of it. Assumes nothing.
-use Rattle.std.proofs.Common.{◌≡◌, ℕ, ◌+◌, ◌-◌, ◌<◌, ◌≤◌, Bool, true, false, List, [], ◌∷◌, ◌++◌, length, get_or, take, drop, Some, None, Option, sym, refl, ap, ◌∙◌, subst, arith}
+use Rattle.std.proofs.Common.{◌≡◌, ℕ, ◌+◌, ◌<◌, ◌≤◌, Bool, true, false, List, [], ◌∷◌, ◌++◌, length, get_or, take, drop, Some, None, Option, sym, ap, ◌∙◌, arith}
 use Rattle.std.specs.Option.{option_map, option_or}
 use Rattle.std.specs.List.{between}
 use Rattle.std.proofs.lemmas.List.Edits.{get_or-between, length-between}
@@ -12,7 +12,7 @@ use Rattle.sheet.proofs.Cuts.{between_zero}
 use Rattle.sheet.proofs.Cursors.{clauses_end, clauses_more, laid_more}
 use Rattle.sheet.proofs.Laying.{clauses_nil, laid_nil}
 use Rattle.steps.specs.Places.{first_made, first_word}
-use Rattle.places.specs.Spots.{Spot, spot, spotted, first_spot, WordFound, SpotAt}
+use Rattle.places.specs.Spots.{spot, spotted, first_spot, WordFound, SpotAt}
 
 -- at the i-th literal
 module _ (test : ℕ → Bool) (ws : List ℕ) (i : ℕ) (left : first_word test (drop i ws) ≡ first_word test ws) where

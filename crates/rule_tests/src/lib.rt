@@ -6,4 +6,4 @@ mod desk;
 #[cfg(test)]
 mod piles;
 #[cfg(test)]
-mod subsumption;
+mod subsumed_clauses;

@@ -1,5 +1,5 @@
 -- Buffers of a working sheet hold together where they are laid out and the sheet that they stand for holds together. Assumes nothing.
-use Rattle.std.proofs.Common.{◌≡◌, ℕ, zero, suc, ◌<◌, ◌≤◌, Bool, true, false, List, [], ◌∷◌, ◌++◌, map, length, take, sym, refl, ap, ◌∙◌, subst, arith}
+use Rattle.std.proofs.Common.{◌≡◌, ℕ, zero, suc, ◌≤◌, true, List, [], ◌∷◌, ◌++◌, map, length, take, sym, refl, ap, ◌∙◌, arith}
 use Rattle.std.specs.List.{AllByRecursion as All}
 use Rattle.std.proofs.ByRecursion.{All-weaker}
 use Rattle.std.proofs.lemmas.List.{get_or-take, length-map, length-take-le}
@@ -16,7 +16,7 @@ use Rattle.sheet.specs.Literals.{item_of}
 use Rattle.sheet.specs.Rows.{item_at, is_label, is_live, label_ordinals}
 use Rattle.sheet.specs.Clauses.{Clause, Laid, soft_ordinals, ordinal_of}
 use Rattle.sheet.specs.Records.{Stacked}
-use Rattle.sheet.specs.Sheets.{Sheet, Lent, Fits, used_clauses, used_row, used_records, used_weights, decoded}
+use Rattle.sheet.specs.Sheets.{Lent, Fits, used_clauses, used_row, used_weights, decoded}
 use Rattle.sheet.specs.Together.{Stands, Distinct, of_phase, HoldsTogether, Fails}
 use Rattle.sheet.proofs.Laying.{valid_laid}
 use Rattle.sheet.proofs.Stacking.{stacked_valid}

@@ -1,6 +1,6 @@
 -- What rules made of rules answer, from what the rules that they hold answer. Assumes nothing.
-use Rattle.std.proofs.Common.{◌≡◌, ℕ, suc, ◌+◌, ◌-◌, ◌<◌, ◌≤◌, true, false, drop, sym, refl, ap, ◌∙◌, subst, add-zero, arith}
-use Rattle.weight.specs.Kind.{Kind, Lawful}
+use Rattle.std.proofs.Common.{◌≡◌, ℕ, suc, ◌+◌, ◌-◌, ◌<◌, ◌≤◌, true, false, drop, refl, ap, ◌∙◌, subst, add-zero, arith}
+use Rattle.weight.specs.Kind.{Lawful}
 use Rattle.weight.specs.declared.kind.Weight.{Ghosts}
 use Rattle.sheet.specs.declared.buffers.Counts.{Counts}
 use Rattle.sheet.specs.declared.buffers.Phase.TheVariants.{Working as at-work}
@@ -10,7 +10,7 @@ use Rattle.sheet.specs.declared.refusal.Refusal.TheVariants.{NotTogether}
 use Rattle.sheet.specs.Sheets.{Sheet, Lent, decoded}
 use Rattle.sheet.specs.Together.{HoldsTogether, Fails}
 use Rattle.meaning.specs.declared.report.Ending.{Ending}
-use Rattle.meaning.specs.declared.report.Ending.TheVariants.{Done, Limit, Full, Rounds}
+use Rattle.meaning.specs.declared.report.Ending.TheVariants.{Done, Rounds}
 use Rattle.meaning.specs.declared.report.Report.{Report}
 use Rattle.meaning.specs.Running.{Outcome, Ran}
 use Rattle.meaning.specs.Steps.{outcome, following, Runs, is_going_on, Then, Repeated}

@@ -1,5 +1,5 @@
 -- An add by its causes: refused, passed over as a tautology, or stored. Assumes nothing.
-use Rattle.std.proofs.Common.{◌≡◌, ℕ, suc, ◌+◌, ◌<◌, ◌≤◌, Bool, true, false, cond, ◌||◌, leb, List, [], ◌∷◌, ◌++◌, length, take, set, ℤ, Some, None, Ok, Err, Option, Result, sym, refl, ap, ◌∙◌, subst, inl, inr, add-zero, arith}
+use Rattle.std.proofs.Common.{◌≡◌, ℕ, ◌+◌, ◌<◌, ◌≤◌, Bool, true, false, cond, ◌||◌, leb, List, [], ◌++◌, length, take, set, ℤ, Some, None, Ok, Err, Option, Result, sym, refl, ap, ◌∙◌, subst, inl, inr, add-zero, arith}
 use Rattle.std.specs.Option.{option_map}
 use Rattle.std.proofs.lemmas.List.{append-nil}
 use Rattle.std.proofs.lemmas.Bool.{cases_Bool, leb-false, or_parts}
@@ -11,7 +11,7 @@ use Rattle.sheet.specs.declared.clause.Tag.TheVariants.{Hard as hard, Soft as so
 use Rattle.sheet.specs.declared.refusal.Refusal.{Refusal}
 use Rattle.sheet.specs.declared.refusal.Refusal.TheVariants.{BadLiteral, TooManySofts, TotalTooLarge}
 use Rattle.sheet.specs.Clauses.{Clause, Valid, clause_words}
-use Rattle.sheet.specs.Sheets.{Sheet, Lent, decoded}
+use Rattle.sheet.specs.Sheets.{Lent, decoded}
 use Rattle.sheet.specs.Together.{HoldsTogether}
 use Rattle.meaning.specs.Accepted.{must, wish, sent_of}
 use Rattle.meaning.specs.Calls.{normal, tautology, stored}

@@ -1,6 +1,5 @@
 -- What a close finds in buffers that hold together, and what it leaves there. Assumes nothing.
-use Rattle.std.proofs.Common.{◌≡◌, ℕ, ◌<◌, ◌≤◌, cond, leb, List, map, length, take, drop, Some, None, Ok, Err, Result, sym, refl, ap, ◌∙◌, subst, ap₂, inl, inr, arith}
-use Rattle.std.specs.List.{AllByRecursion as All}
+use Rattle.std.proofs.Common.{◌≡◌, ℕ, ◌≤◌, cond, leb, List, map, length, take, drop, Some, None, Ok, Err, Result, sym, refl, ap, ◌∙◌, subst, ap₂, inl, inr, arith}
 use Rattle.std.proofs.ByRecursion.{All-weaker}
 use Rattle.std.proofs.lemmas.List.{length-take-le}
 use Rattle.std.proofs.lemmas.Bool.{cases_Bool, leb-true}
@@ -15,9 +14,8 @@ use Rattle.sheet.specs.declared.row.Item.{Item}
 use Rattle.sheet.specs.Literals.{Literal}
 use Rattle.sheet.specs.Clauses.{Clause, Laid, clauses}
 use Rattle.sheet.specs.Sheets.{Lent, used_clauses, used_row, used_records, used_weights, decoded}
-use Rattle.sheet.specs.Together.{HoldsTogether, Stands}
-use Rattle.meaning.specs.Accepted.{Accepted}
-use Rattle.meaning.specs.Calls.{Reached, gathering, working, closed_row, closed_clauses, by_close}
+use Rattle.sheet.specs.Together.{HoldsTogether}
+use Rattle.meaning.specs.Calls.{Reached, gathering, working, by_close}
 use Rattle.meaning.proofs.Reaching.{reached_faithful}
 use Rattle.closing.specs.Labelling.{Closable, Needed, Ranged, closed_in, row_in}
 use Rattle.session.specs.declared.gathering.Gathering.{Gathering}

@@ -6,7 +6,7 @@ use Rattle.weight.specs.declared.kind.Weight.{Ghosts}
 use Rattle.sheet.specs.declared.row.Item.{Item}
 use Rattle.sheet.specs.Clauses.{Clause, clauses}
 use Rattle.sheet.specs.Records.{Record, records}
-use Rattle.sheet.specs.Sheets.{Sheet, decoded}
+use Rattle.sheet.specs.Sheets.{decoded}
 use Rattle.meaning.specs.Calls.{plain_item, opened}
 
 -- one more place written

@@ -1,6 +1,5 @@
 -- From a sheet that calls reached, the calls reach one again. Assumes nothing.
-use Rattle.std.proofs.Common.{◌≡◌, ℕ, ◌+◌, ◌<◌, ◌≤◌, Bool, true, false, cond, List, [], ◌∷◌, ◌++◌, map, length, take, ℤ, Some, None, Ok, Err, Option, Result, sym, refl, ap, ◌∙◌, subst, inl, inr, arith}
-use Rattle.std.specs.Option.{option_map}
+use Rattle.std.proofs.Common.{◌≡◌, ◌<◌, ◌≤◌, true, List, [], ◌∷◌, ◌++◌, map, length, ℤ, None, Ok, Err, Result, sym, refl, ap, ◌∙◌, subst, inl, inr, arith}
 use Rattle.std.proofs.lemmas.List.{length-append, length-map, length-take}
 use Rattle.std.proofs.lemmas.Bool.{cases_Bool}
 use Rattle.weight.specs.Kind.{Kind, Lawful, total_of}
@@ -8,16 +7,15 @@ use Rattle.weight.specs.Total.{total_in}
 use Rattle.weight.specs.declared.kind.Weight.{Ghosts}
 use Rattle.weight.proofs.Folding.{total_append}
 use Rattle.sheet.specs.declared.refusal.Refusal.{Refusal}
-use Rattle.sheet.specs.Sheets.{Sheet, Lent, used_weights, decoded}
-use Rattle.meaning.specs.Accepted.{Accepted, sent_of}
+use Rattle.sheet.specs.Sheets.{Lent, used_weights, decoded}
+use Rattle.meaning.specs.Accepted.{sent_of}
 use Rattle.meaning.specs.Calls.{normal, tautology, after_add, stored, Added, Reached, gathering, by_add}
 use Rattle.meaning.proofs.Reaching.{reached_faithful}
 use Rattle.sending.specs.Sending.{InRange}
 use Rattle.sending.proofs.Refusing.{none_bad}
 use Rattle.session.specs.declared.claim.Claim.{Claim}
 use Rattle.session.specs.declared.claim.Claim.TheVariants.{Hard, Soft}
-use Rattle.session.specs.Refusing.{or_else}
-use Rattle.session.specs.Adding.{accepted, soft_cause, words_cause, stored_clause, add_cause, Taken, AddAnswered, accepted_by, AddFaithful}
+use Rattle.session.specs.Adding.{accepted, soft_cause, add_cause, Taken, AddAnswered, AddFaithful}
 use Rattle.session.proofs.Accepting.{sent_is, good_literals, soft_admitted, soft_passes}
 
 -- a total of weights is one of their values

@@ -1,5 +1,5 @@
 -- What a run reaches. Assumes nothing.
-use Rattle.std.proofs.Common.{◌≡◌, ℕ, List, Ok, Err, Result, sym, ap, subst}
+use Rattle.std.proofs.Common.{ℕ, List, Ok, Err, Result, sym, subst}
 use Rattle.weight.specs.Kind.{Lawful}
 use Rattle.weight.specs.declared.kind.Weight.{Ghosts}
 use Rattle.sheet.specs.declared.refusal.Refusal.{Refusal}

@@ -1,5 +1,5 @@
 -- What the buffers stand for once a clause is written behind the others. Assumes nothing.
-use Rattle.std.proofs.Common.{◌≡◌, ℕ, ◌+◌, ◌<◌, ◌≤◌, min, List, [], ◌∷◌, ◌++◌, map, length, take, drop, set, ℤ, Some, None, sym, refl, ap, ◌∙◌, subst, ap₂, add-one, arith, take-suc-set}
+use Rattle.std.proofs.Common.{◌≡◌, ℕ, ◌+◌, ◌<◌, ◌≤◌, min, List, [], ◌∷◌, ◌++◌, map, length, take, drop, set, ℤ, Some, None, sym, ap, ◌∙◌, ap₂, add-one, arith, take-suc-set}
 use Rattle.std.specs.List.{between}
 use lib.Seq.{paste}
 use Rattle.std.proofs.lemmas.List.{drop_at, length-append, length-map, length-take-le, map-append, take_all, take-append-le, take-take}
@@ -9,9 +9,9 @@ use Rattle.std.proofs.lemmas.Bool.Decides.{nat_tests}
 use Rattle.weight.specs.declared.kind.Weight.{Ghosts}
 use Rattle.sheet.specs.declared.clause.Tag.TheVariants.{Hard as hard, Soft as soft}
 use Rattle.sheet.specs.Clauses.{Clause, Valid, Laid, clauses, clause_words}
-use Rattle.sheet.specs.Sheets.{Sheet, Lent, used_clauses, used_row, used_records, used_weights, decoded}
+use Rattle.sheet.specs.Sheets.{Lent, used_clauses, used_row, used_records, used_weights, decoded}
 use Rattle.sheet.proofs.Laying.{clauses_append, clauses_one, laid_append, laid_words}
-use Rattle.meaning.specs.Accepted.{Accepted, must, wish}
+use Rattle.meaning.specs.Accepted.{must, wish}
 use Rattle.sheet.specs.declared.refusal.Refusal.TheVariants.{WordsDoNotFit}
 use Rattle.meaning.specs.Calls.{normal, stored}
 use Rattle.session.specs.Adding.{words_cause}

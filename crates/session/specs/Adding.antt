@@ -1,5 +1,5 @@
 -- Adding a clause: when it refuses, in the order of the causes, and what it stores. Assumes nothing.
-use Rattle.std.specs.Prelude.{◌≡◌, ℕ, ◌+◌, Bool, true, false, cond, ◌&&◌, ◌||◌, List, [], ◌∷◌, ◌++◌, length, take, ℤ, Some, None, Ok, Err, Option, Result, nat_le, slice_set}
+use Rattle.std.specs.Prelude.{◌≡◌, ℕ, ◌+◌, cond, ◌&&◌, ◌||◌, List, [], ◌∷◌, ◌++◌, length, take, ℤ, Some, None, Ok, Err, Option, Result, nat_le, slice_set}
 use Rattle.std.specs.Option.{option_map}
 use Rattle.weight.specs.declared.kind.Weight.{Ghosts}
 use Rattle.weight.specs.Total.{total_in}

@@ -1,5 +1,5 @@
 -- Clauses, and how they lie in words: a header (4 bits of kind, 12 bits of count), the literals, and a soft's ordinal, which the count leaves out. Assumes nothing.
-use Rattle.std.specs.Prelude.{◌≡◌, ℕ, zero, suc, ◌+◌, ◌*◌, ◌/◌, ◌%◌, ◌<◌, ◌≤◌, cond, List, [], ◌∷◌, ◌++◌, length, take, drop, ◌==◌, slice_index}
+use Rattle.std.specs.Prelude.{◌≡◌, ℕ, zero, suc, ◌+◌, ◌*◌, ◌/◌, ◌%◌, ◌<◌, cond, List, [], ◌∷◌, ◌++◌, length, take, drop, ◌==◌, slice_index}
 use Rattle.std.specs.List.{AllByRecursion as All}
 use Rattle.sheet.specs.Literals.{Normal}
 pub use Rattle.sheet.specs.declared.clause.Tag.{Tag}

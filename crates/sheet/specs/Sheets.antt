@@ -1,5 +1,5 @@
 -- The sheet that the lent buffers stand for. Assumes nothing.
-use Rattle.std.specs.Prelude.{◌≡◌, ℕ, ◌≤◌, List, map, length, take}
+use Rattle.std.specs.Prelude.{ℕ, ◌≤◌, List, map, length, take}
 use Rattle.weight.specs.declared.kind.Weight.{Ghosts}
 use Rattle.sheet.specs.declared.buffers.Marks.{Marks}
 use Rattle.sheet.specs.declared.buffers.Counts.{Counts}

@@ -9,8 +9,8 @@ use Rattle.sheet.specs.declared.refusal.Part.{Part}
 use Rattle.sheet.specs.declared.refusal.Part.TheVariants.{Sheet as in-sheet, Row as in_row, Stack as in_stack, Weights as in-weights}
 use Rattle.sheet.specs.Literals.{Literal, item_of, denied}
 use Rattle.sheet.specs.Rows.{Item, Standing, Plain, Label, Fixed, Covered, Forced, live_at, label_at, label_ordinals}
-use Rattle.sheet.specs.Clauses.{Clause, Tag, Hard, Soft, Working as Worked, Laid, soft_ordinals}
-use Rattle.sheet.specs.Records.{Record, Stacked}
+use Rattle.sheet.specs.Clauses.{Tag, Hard, Soft, Working as Worked, Laid, soft_ordinals}
+use Rattle.sheet.specs.Records.{Stacked}
 use Rattle.sheet.specs.Sheets.{Lent, Fits, used_clauses, used_row, used_records, used_weights}
 
 -- hard and soft clauses are gathered, working ones worked on

@@ -7,7 +7,6 @@ use Rattle.sheet.specs.declared.row.Item.{Item}
 use Rattle.sheet.specs.Clauses.{Clause}
 use Rattle.sheet.specs.Records.{Record}
 use Rattle.sheet.specs.Sheets.{Sheet}
-use Rattle.meaning.specs.Running.{Outcome}
 use Rattle.meaning.specs.Steps.{Runs, repeated_step}
 use Rattle.steps.specs.Places.{some, every, first_made, first_word}
 use Rattle.steps.specs.Rooms.{Room, records_fit}

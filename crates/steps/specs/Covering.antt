@@ -1,5 +1,5 @@
 -- Subsumed label elimination (e): a live label goes if one other live label, no dearer, stands in every clause with it. Assumes nothing.
-use Rattle.std.specs.Prelude.{◌≡◌, ℕ, Bool, true, not, ◌&&◌, ◌||◌, List, map, length, is_some, Option, ◌==◌}
+use Rattle.std.specs.Prelude.{◌≡◌, ℕ, Bool, true, not, ◌&&◌, ◌||◌, map, length, is_some, Option, ◌==◌}
 use Rattle.std.specs.Option.{option_map}
 use Rattle.weight.specs.Kind.{Kind}
 use Rattle.sheet.specs.Literals.{has}
@@ -8,7 +8,6 @@ use Rattle.sheet.specs.Rows.{item_at}
 use Rattle.sheet.specs.Clauses.{Clause}
 use Rattle.sheet.specs.Sheets.{Sheet}
 use Rattle.meaning.specs.Answers.{weight_of}
-use Rattle.meaning.specs.Running.{Outcome}
 use Rattle.meaning.specs.Steps.{Runs, repeated_step}
 use Rattle.steps.specs.Places.{every, lowest_item, nameable}
 use Rattle.steps.specs.Rewriting.{lacking, payable_at, retired}

@@ -10,7 +10,6 @@ use Rattle.sheet.specs.Clauses.{Clause}
 use Rattle.sheet.specs.Records.{Record}
 use Rattle.sheet.specs.Sheets.{Sheet}
 use Rattle.meaning.specs.Calls.{insert}
-use Rattle.meaning.specs.Running.{Outcome}
 use Rattle.meaning.specs.Steps.{Runs, repeated_step}
 use Rattle.steps.specs.Places.{some, every, lowest_item, nameable}
 use Rattle.steps.specs.Rooms.{Room, clauses_fit, records_fit}

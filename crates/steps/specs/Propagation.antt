@@ -8,7 +8,6 @@ use Rattle.sheet.specs.Rows.{item_at}
 use Rattle.sheet.specs.Clauses.{Clause}
 use Rattle.sheet.specs.Records.{Record}
 use Rattle.sheet.specs.Sheets.{Sheet}
-use Rattle.meaning.specs.Running.{Outcome}
 use Rattle.meaning.specs.Steps.{Runs, repeated_step}
 use Rattle.steps.specs.Places.{first_made}
 use Rattle.steps.specs.Rooms.{Room, records_fit}

@@ -1,5 +1,5 @@
 -- What steps make of literals, clauses and items. Assumes nothing.
-use Rattle.std.specs.Prelude.{ℕ, ◌-◌, Bool, true, false, not, ◌&&◌, List, [], ◌∷◌, map, filter, ◌==◌, slice_set}
+use Rattle.std.specs.Prelude.{ℕ, ◌-◌, Bool, true, false, not, ◌&&◌, List, [], ◌∷◌, filter, ◌==◌, slice_set}
 use Rattle.sheet.specs.Literals.{item_of, has}
 use Rattle.sheet.specs.declared.row.Item.{Item}
 use Rattle.sheet.specs.declared.row.Standing.{Standing}

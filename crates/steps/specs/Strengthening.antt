@@ -5,7 +5,6 @@ use Rattle.sheet.specs.Literals.{opposite, has}
 use Rattle.sheet.specs.declared.row.Item.{Item}
 use Rattle.sheet.specs.Clauses.{Clause}
 use Rattle.sheet.specs.Sheets.{Sheet}
-use Rattle.meaning.specs.Running.{Outcome}
 use Rattle.meaning.specs.Steps.{Runs, repeated_step}
 use Rattle.steps.specs.Places.{some, first_made, first_word}
 use Rattle.steps.specs.Rewriting.{inside, but, lacking, plain_lit, with_clauses}

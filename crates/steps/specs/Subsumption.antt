@@ -1,10 +1,9 @@
 -- Subsumption (s): a clause that has all the literals of another goes, labels included; of equals the later. Assumes nothing.
-use Rattle.std.specs.Prelude.{◌≡◌, ℕ, Bool, true, not, ◌&&◌, ◌||◌, List, [], ◌++◌, Option}
+use Rattle.std.specs.Prelude.{◌≡◌, Bool, true, not, ◌&&◌, ◌||◌, List, [], ◌++◌, Option}
 use Rattle.std.specs.Option.{option_map}
 use Rattle.std.specs.Bool.{then_some}
 use Rattle.sheet.specs.Clauses.{Clause}
 use Rattle.sheet.specs.Sheets.{Sheet}
-use Rattle.meaning.specs.Running.{Outcome}
 use Rattle.meaning.specs.Steps.{Runs, repeated_step}
 use Rattle.steps.specs.Places.{some, first_made}
 use Rattle.steps.specs.Rewriting.{inside, with_clauses}

@@ -1,9 +1,8 @@
 -- The step on a sheet is the step on its clauses, and what a run of it answers. Assumes nothing.
-use Rattle.std.proofs.Common.{◌≡◌, ℕ, zero, suc, ◌+◌, ◌≤◌, min, Bool, true, List, length, take, drop, Some, None, Option, sym, refl, ap, ◌∙◌, subst, arith}
+use Rattle.std.proofs.Common.{◌≡◌, ℕ, zero, suc, ◌+◌, ◌≤◌, min, true, List, length, take, Some, None, Option, sym, refl, ap, ◌∙◌, arith}
 use Rattle.std.specs.Option.{option_map}
 use Rattle.weight.specs.Kind.{Lawful}
 use Rattle.weight.specs.declared.kind.Weight.{Ghosts}
-use Rattle.sheet.specs.declared.buffers.Marks.{Marks}
 use Rattle.sheet.specs.declared.buffers.Phase.TheVariants.{Working as at-work}
 use Rattle.sheet.specs.Clauses.{Clause, Laid, clauses}
 use Rattle.sheet.specs.Sheets.{Sheet, Lent, decoded, used_clauses}

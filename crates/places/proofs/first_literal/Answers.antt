@@ -1,4 +1,4 @@
-use Rattle.std.proofs.Common.{sym, refl, ◌∙◌, arith}
+use Rattle.std.proofs.Common.{sym, refl, ◌∙◌}
 use Rattle.places.proofs.Searching.{word_none, word_here, word_on}
 use Rattle.places.proofs.first_literal.Goals as goal
 

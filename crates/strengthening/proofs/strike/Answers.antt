@@ -1,4 +1,4 @@
-use Rattle.std.proofs.Common.{◌≡◌, ℕ, ◌+◌, List, ◌++◌, take, ap, ◌∙◌, arith}
+use Rattle.std.proofs.Common.{ℕ, ◌+◌, List, ◌++◌, take, ap, ◌∙◌, arith}
 use Rattle.std.specs.List.{between}
 use Rattle.strengthening.proofs.Striking.{few, laid_struck, clauses_struck}
 use Rattle.strengthening.proofs.strike.Goals as goal

@@ -1,4 +1,4 @@
-use Rattle.std.proofs.Common.{sym, refl, ◌∙◌}
+use Rattle.std.proofs.Common.{sym, ◌∙◌}
 use Rattle.strengthening.proofs.Yielding.{yields_end, yields_stray, yields_on}
 use Rattle.strengthening.proofs.yields.Goals as goal
 

@@ -1,5 +1,5 @@
 use Rattle.std.proofs.lemmas.Cmp.{ranked}
-use Rattle.std.proofs.Common.{Less, Equal, Greater, get_or, ◌≡◌, ◌+◌, length, drop, sym, ap, ◌∙◌, arith}
+use Rattle.std.proofs.Common.{Less, Equal, Greater, get_or, ◌+◌, drop, sym, ap, ◌∙◌, arith}
 use Rattle.std.proofs.lemmas.List.{at_drop_all}
 use Rattle.steps.specs.Rewriting.{inside}
 use Rattle.subsumption.proofs.Insides.{inside_past, inside_stop, inside_behind, inside_both}

@@ -1,4 +1,4 @@
-use Rattle.std.proofs.Common.{◌≡◌, ◌≤◌, sym, ◌∙◌, arith}
+use Rattle.std.proofs.Common.{sym, ◌∙◌, arith}
 use Rattle.subsumption.proofs.Passing.{passing_none, passing_done, passing_limit, passing_dropped, passing_kept, passing_spent}
 use Rattle.subsumption.proofs.remove_subsumed.Goals as goal
 

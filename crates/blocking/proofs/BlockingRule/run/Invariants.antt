@@ -1,5 +1,4 @@
 use Rattle.std.proofs.Common.{◌-◌}
-use Rattle.sheet.specs.Sheets.{Lent}
 use Rattle.blocking.proofs.Lifting.{Running}
 use Rattle.blocking.proofs.BlockingRule.run.Given as goal
 

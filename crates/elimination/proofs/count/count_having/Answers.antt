@@ -1,4 +1,4 @@
-use Rattle.std.proofs.Common.{◌≡◌, length, ap, arith}
+use Rattle.std.proofs.Common.{length, ap, arith}
 use Rattle.sheet.proofs.Cursors.{clauses_end}
 use Rattle.steps.specs.Rewriting.{having}
 use Rattle.elimination.proofs.count.count_having.Goals as goal

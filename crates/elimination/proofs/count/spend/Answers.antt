@@ -1,4 +1,4 @@
-use Rattle.std.proofs.Common.{◌≡◌, ◌+◌, length, sym, ap, ◌∙◌, arith}
+use Rattle.std.proofs.Common.{◌+◌, length, sym, ap, ◌∙◌, arith}
 use Rattle.std.specs.List.{between}
 use Rattle.sheet.specs.Clauses.{clauses}
 use Rattle.sheet.specs.ClauseSteps.{placed}

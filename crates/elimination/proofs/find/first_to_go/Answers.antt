@@ -1,4 +1,4 @@
-use Rattle.std.proofs.Common.{◌≡◌, take, sym, ◌∙◌, arith}
+use Rattle.std.proofs.Common.{take, sym, ◌∙◌, arith}
 use Rattle.sheet.specs.Clauses.{clauses}
 use Rattle.steps.specs.Elimination.{may_go}
 use Rattle.elimination.proofs.Items.{lowest_here, lowest_later}

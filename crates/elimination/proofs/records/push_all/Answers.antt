@@ -1,13 +1,11 @@
-use Rattle.std.proofs.Common.{◌≡◌, ◌+◌, ◌-◌, ◌<◌, ◌≤◌, length, sym, ap, ◌∙◌, arith}
+use Rattle.std.proofs.Common.{sym, ap, ◌∙◌, arith}
 use Rattle.std.specs.List.{between}
-use Rattle.std.proofs.lemmas.List.Edits.{length-between}
 use Rattle.sheet.specs.Clauses.{clauses}
 use Rattle.sheet.specs.ClauseSteps.{placed}
 use Rattle.sheet.specs.Records.{encode_stack, record_words}
 use Rattle.sheet.proofs.Cursors.{clauses_end}
 use Rattle.steps.specs.Elimination.{elimination_record, elimination_records}
-use Rattle.elimination.specs.Resolving.{working}
-use Rattle.elimination.proofs.Appending.{writing_none, writing_skip, writing_full, writing_more, writing_all}
+use Rattle.elimination.proofs.Appending.{writing_skip, writing_full, writing_more, writing_all}
 use Rattle.elimination.proofs.Recording.{records_taken, records_skipped, record_length}
 use Rattle.elimination.proofs.records.push_all.Goals as goal
 

@@ -1,4 +1,4 @@
-use Rattle.std.proofs.Common.{◌≡◌, refl, arith, rules}
+use Rattle.std.proofs.Common.{refl, arith, rules}
 use Rattle.elimination.specs.Eliminating.{Words}
 use Rattle.elimination.proofs.Laying.{all_laid, all_fits, all_made, wrote_at, pushed_at}
 use Rattle.elimination.proofs.step.eliminate.Goals as goal

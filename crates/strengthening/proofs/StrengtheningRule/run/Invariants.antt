@@ -1,5 +1,4 @@
-use Rattle.std.proofs.Common.{◌-◌, true}
-use Rattle.sheet.specs.Sheets.{Lent}
+use Rattle.std.proofs.Common.{◌-◌}
 use Rattle.strengthening.proofs.Lifting.{Running}
 use Rattle.strengthening.proofs.StrengtheningRule.run.Given as goal
 

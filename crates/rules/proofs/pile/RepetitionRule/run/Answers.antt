@@ -1,4 +1,4 @@
-use Rattle.std.proofs.Common.{◌≡◌, sym, ◌∙◌}
+use Rattle.std.proofs.Common.{sym, ◌∙◌}
 use Rattle.std.proofs.lemmas.Bool.{eqb-true, eqb-false}
 use Rattle.sheet.specs.Sheets.{lent}
 use Rattle.rules.proofs.Piles.{going_all, going_more, round_idles, round_stops}

@@ -1,6 +1,6 @@
-use Rattle.std.proofs.Common.{◌≡◌, true, false, sym, ◌∙◌, subst}
+use Rattle.std.proofs.Common.{sym, ◌∙◌, subst}
 use Rattle.meaning.specs.declared.report.Report.{Report}
-use Rattle.meaning.specs.Steps.{is_going_on, Then}
+use Rattle.meaning.specs.Steps.{Then}
 use Rattle.sheet.specs.Sheets.{Lent, lent}
 use Rattle.rules.specs.Answering.{Went}
 use Rattle.rules.proofs.Piles.{then_stops, then_goes_on}

@@ -1,17 +1,13 @@
-use Rattle.std.proofs.Common.{◌≡◌, ℕ, ◌+◌, ◌≤◌, true, false, List, ◌++◌, length, take, set, Some, None, Ok, Err, sym, refl, ap, ◌∙◌, subst, inl, inr, arith, rules}
+use Rattle.std.proofs.Common.{◌≡◌, ◌+◌, ◌≤◌, true, false, length, set, None, Ok, Err, sym, refl, ap, ◌∙◌, subst, inl, inr, rules}
 use Rattle.std.proofs.lemmas.Result.{err_from_is_err_and}
-use Rattle.sheet.specs.declared.clause.Tag.{Tag}
-use Rattle.sheet.specs.declared.clause.Tag.TheVariants.{Hard as hard, Soft as soft}
-use Rattle.sheet.specs.declared.refusal.Refusal.{Refusal}
 use Rattle.sheet.specs.declared.refusal.Refusal.TheVariants.{NotTogether, BadLiteral}
 use Rattle.sheet.specs.Sheets.{Lent, lent}
 use Rattle.meaning.specs.Calls.{normal, tautology}
-use Rattle.sending.specs.Sending.{InRange, bad_place, words_of}
+use Rattle.sending.specs.Sending.{bad_place, words_of}
 use Rattle.sending.proofs.Normals.{normal_short}
 use Rattle.sending.proofs.Refusing.{none_bad, in_range_wider}
-use Rattle.session.specs.declared.claim.Claim.{Claim}
-use Rattle.session.specs.declared.claim.Claim.TheVariants.{Hard, Soft}
-use Rattle.session.specs.Adding.{AddAnswered, Taken, Stored}
+use Rattle.session.specs.declared.claim.Claim.TheVariants.{Soft}
+use Rattle.session.specs.Adding.{AddAnswered}
 use Rattle.session.proofs.Accepting.{bad_cause, soft_cause_lem, taken_tautology, hard_refused, hard_stored, soft_refused, soft_stored}
 use Rattle.session.proofs.Reaching.{add_faithful}
 use Rattle.session.proofs.gathering.Gathering.add.Goals as goal

@@ -1,4 +1,4 @@
-use Rattle.std.proofs.Common.{◌≡◌, length, None, Ok, Err, sym, refl, ap, ◌∙◌, subst, inl, inr, arith}
+use Rattle.std.proofs.Common.{◌≡◌, length, None, Ok, Err, sym, refl, ap, ◌∙◌, inl, inr, arith}
 use Rattle.sheet.specs.declared.buffers.Marks.{Marks}
 use Rattle.sheet.specs.declared.buffers.Counts.{Counts}
 use Rattle.sheet.specs.declared.refusal.Refusal.TheVariants.{NotTogether}

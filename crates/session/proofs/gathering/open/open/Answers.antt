@@ -1,4 +1,4 @@
-use Rattle.std.proofs.Common.{◌≡◌, [], drop, refl, ap, ◌∙◌, rules}
+use Rattle.std.proofs.Common.{[], drop, refl, ap, ◌∙◌, rules}
 use Rattle.sheet.specs.Sheets.{decoded}
 use Rattle.meaning.specs.Calls.{Reached, gathering, by_open}
 use Rattle.meaning.proofs.Reaching.{reached_faithful}
