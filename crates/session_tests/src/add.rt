@@ -39,11 +39,6 @@ fn a_literal_that_names_no_item_is_refused_with_its_place(rt: HostRuntime) -> Re
     Ok(())
 }
 
-// One literal many times: what an add takes in may be far longer than what it stores.
-fn repeats<const N: usize>() -> [i32; N] {
-    [-2; N]
-}
-
 #[test]
 fn repeats_collapse_and_words_ascend(rt: HostRuntime) -> Result<(), Fail> {
     let mut sheet = [9; 5];
@@ -52,15 +47,34 @@ fn repeats_collapse_and_words_ascend(rt: HostRuntime) -> Result<(), Fail> {
     send(
         &rt,
         &mut gathering,
-        &[
-            (&[2, -3, 2], HARD, PASSED),
-            (&repeats::<1_000_000>(), HARD, PASSED),
-        ],
+        &[(&[2, -3, 2], HARD, PASSED), (&[-2; 5000], HARD, PASSED)],
         &mut sheet,
         &row,
         &mut [],
     );
     assert_eq!(rt; sheet, [4098, 2, 32771, 4097, 32770]);
+    Ok(())
+}
+
+// One literal many times: what an add takes in may be far longer than what it stores.
+fn repeats<const N: usize>() -> [i32; N] {
+    [-2; N]
+}
+
+#[test]
+fn a_million_repeats_collapse(rt: HostRuntime) -> Result<(), Fail> {
+    let mut sheet = [9; 2];
+    let mut row = [PLAIN; 2];
+    let mut gathering = opened(2, &mut row)?;
+    send(
+        &rt,
+        &mut gathering,
+        &[(&repeats::<1_000_000>(), HARD, PASSED)],
+        &mut sheet,
+        &row,
+        &mut [],
+    );
+    assert_eq!(rt; sheet, [4097, 32770]);
     Ok(())
 }
 
