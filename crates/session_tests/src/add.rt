@@ -56,20 +56,17 @@ fn repeats_collapse_and_words_ascend(rt: HostRuntime) -> Result<(), Fail> {
     Ok(())
 }
 
-// One literal many times: what an add takes in may be far longer than what it stores.
-fn repeats<const N: usize>() -> [i32; N] {
-    [-2; N]
-}
-
+// What an add takes in may be far longer than what it stores.
 #[test]
 fn a_million_repeats_collapse(rt: HostRuntime) -> Result<(), Fail> {
     let mut sheet = [9; 2];
     let mut row = [PLAIN; 2];
     let mut gathering = opened(2, &mut row)?;
+    let repeats = vec![in rt.alloc(); -2; 1_000_000]?;
     send(
         &rt,
         &mut gathering,
-        &[(&repeats::<1_000_000>(), HARD, PASSED)],
+        &[(&repeats, HARD, PASSED)],
         &mut sheet,
         &row,
         &mut [],
