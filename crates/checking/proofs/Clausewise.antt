@@ -1,6 +1,6 @@
 -- What the sheet's part asks of the clauses, clause by clause. Assumes nothing.
 use Rattle.std.proofs.Common.{◌≡◌, ℕ, ◌<◌, true, List, [], ◌∷◌}
-use Rattle.std.specs.List.{AllByRecursion as All}
+use Rattle.std.specs.List.{AllByRecursion}
 use Rattle.std.proofs.ByRecursion.{All-append, All-weaker}
 use Rattle.sheet.specs.declared.buffers.Phase.{Phase}
 use Rattle.sheet.specs.declared.row.Item.{Item}
@@ -10,17 +10,17 @@ use Rattle.checking.specs.Standing.{ClauseStands}
 use Rattle.checking.proofs.Passing.{all_parts}
 
 module _ (phase : Phase) (items softs : ℕ) (row : List Item) where
-  pub each_kind : (cs : List Clause) → All (ClauseStands phase items softs row) cs → All (λ c. of_phase phase c.tag ≡ true) cs
+  pub each_kind : (cs : List Clause) → AllByRecursion (ClauseStands phase items softs row) cs → AllByRecursion (λ c. of_phase phase c.tag ≡ true) cs
   each_kind cs h = All-weaker _ _ (λ c s. s.kind) cs h
 
-  pub each_literals : (cs : List Clause) → All (ClauseStands phase items softs row) cs → All (λ c. All (Stands phase items row) c.lits) cs
+  pub each_literals : (cs : List Clause) → AllByRecursion (ClauseStands phase items softs row) cs → AllByRecursion (λ c. AllByRecursion (Stands phase items row) c.lits) cs
   each_literals cs h = All-weaker _ _ (λ c s. s.literals) cs h
 
-  pub each_ranged : (cs : List Clause) → All (ClauseStands phase items softs row) cs → All (λ n. n < softs) (soft_ordinals cs)
+  pub each_ranged : (cs : List Clause) → AllByRecursion (ClauseStands phase items softs row) cs → AllByRecursion (λ n. n < softs) (soft_ordinals cs)
   each_ranged [] h = tt
   each_ranged (c ∷ cs) h = All-append _ (ordinal_of c.tag) (soft_ordinals cs) h.0.ranged (each_ranged cs h.1)
 
-  pub each_stands : (cs : List Clause) → All (λ c. of_phase phase c.tag ≡ true) cs → All (λ c. All (Stands phase items row) c.lits) cs → All (λ n. n < softs) (soft_ordinals cs) → All (ClauseStands phase items softs row) cs
+  pub each_stands : (cs : List Clause) → AllByRecursion (λ c. of_phase phase c.tag ≡ true) cs → AllByRecursion (λ c. AllByRecursion (Stands phase items row) c.lits) cs → AllByRecursion (λ n. n < softs) (soft_ordinals cs) → AllByRecursion (ClauseStands phase items softs row) cs
   each_stands [] kinds literals ranged = tt
   each_stands (c ∷ cs) kinds literals ranged =
       let p = all_parts (λ n. n < softs) (ordinal_of c.tag) (soft_ordinals cs) ranged in

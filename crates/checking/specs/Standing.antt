@@ -1,6 +1,6 @@
 -- What the sheet's part asks of an item that a literal names, and of a clause. Assumes nothing.
 use Rattle.std.specs.Prelude.{◌≡◌, ℕ, ◌<◌, Bool, true, false, List, nat_lt}
-use Rattle.std.specs.List.{AllByRecursion as All}
+use Rattle.std.specs.List.{AllByRecursion}
 use Rattle.sheet.specs.declared.buffers.Phase.{Phase}
 use Rattle.sheet.specs.declared.buffers.Phase.TheVariants.{Gathering, Working}
 use Rattle.sheet.specs.declared.row.Item.{Item}
@@ -20,5 +20,5 @@ allowed phase Forced w = false
 
 pub record ClauseStands (phase : Phase) (items softs : ℕ) (row : List Item) (c : Clause) : Type 0 where
   pub kind : of_phase phase c.tag ≡ true
-  pub ranged : All (λ n. n < softs) (ordinal_of c.tag)
-  pub literals : All (Stands phase items row) c.lits
+  pub ranged : AllByRecursion (λ n. n < softs) (ordinal_of c.tag)
+  pub literals : AllByRecursion (Stands phase items row) c.lits

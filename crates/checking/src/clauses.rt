@@ -1,6 +1,6 @@
 // Whether the clauses of the sheet are as the phase, the row and the counts ask.
 ghost use Rattle.std.specs.Prelude.{◌≡◌, ◌<◌, ◌≤◌, length, take, Decides};
-ghost use Rattle.std.specs.List.{AllByRecursion as All};
+ghost use Rattle.std.specs.List.{AllByRecursion};
 ghost use Rattle.sheet.specs.Clauses.{Laid, clauses, ordinal_of};
 ghost use Rattle.sheet.specs.ClauseSteps.{placed};
 ghost use Rattle.sheet.specs.Together.{of_phase};
@@ -22,7 +22,7 @@ fn of_phase(phase: Phase, tag: Tag) -> bool
 
 // Whether a soft's ordinal is below the count of softs.
 fn in_range(softs: usize, tag: Tag) -> bool
-    ensures { Decides result (All (λ n. n < softs) (ordinal_of tag)) }
+    ensures { Decides result (AllByRecursion (λ n. n < softs) (ordinal_of tag)) }
 {
     match tag {
         Tag::Soft(n) => usize::from(n) < softs,
@@ -50,7 +50,7 @@ pub(crate) fn clauses_stand(
 ) -> bool
     requires fits { fill ≤ length sheet.now }
     requires laid { Laid (take fill sheet.now) }
-    ensures { Decides result (All (ClauseStands phase counts.items counts.softs row.now) (clauses (take fill sheet.now))) }
+    ensures { Decides result (AllByRecursion (ClauseStands phase counts.items counts.softs row.now) (clauses (take fill sheet.now))) }
 {
     let mut at = 0;
     while at < fill {

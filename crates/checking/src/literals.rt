@@ -1,6 +1,6 @@
 // Whether literals name the items that they may.
 ghost use Rattle.std.specs.Prelude.{◌≡◌, Decides};
-ghost use Rattle.std.specs.List.{AllByRecursion as All};
+ghost use Rattle.std.specs.List.{AllByRecursion};
 ghost use Rattle.sheet.specs.Literals.{Literal};
 ghost use Rattle.sheet.specs.Together.{Stands};
 ghost use Rattle.checking.specs.Standing.{allowed};
@@ -18,7 +18,7 @@ fn is_literal(items: usize, w: u16) -> bool
 }
 
 pub(crate) fn all_literals(items: usize, lits: &[u16]) -> bool
-    ensures { Decides result (All (Literal items) lits.now) }
+    ensures { Decides result (AllByRecursion (Literal items) lits.now) }
 {
     for w in lits {
         if !is_literal(items, *w) {
@@ -54,7 +54,7 @@ fn stands(phase: Phase, items: usize, row: &[Item], w: u16) -> bool
 }
 
 pub(crate) fn all_stand(phase: Phase, items: usize, row: &[Item], lits: &[u16]) -> bool
-    ensures { Decides result (All (Stands phase items row.now) lits.now) }
+    ensures { Decides result (AllByRecursion (Stands phase items row.now) lits.now) }
 {
     for w in lits {
         if !stands(phase, items, row, *w) {

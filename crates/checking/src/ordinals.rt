@@ -1,6 +1,6 @@
 // Whether ordinals are those of softs, and no ordinal is there twice. A table with a place for each ordinal notes those that were seen.
 ghost use Rattle.std.specs.Prelude.{◌≡◌, ℕ, ◌<◌, ◌≤◌, true, false, List, [], ◌++◌, length, take, Decides, slice_index_or, slice_set};
-ghost use Rattle.std.specs.List.{AllByRecursion as All};
+ghost use Rattle.std.specs.List.{AllByRecursion};
 ghost use Rattle.sheet.specs.Clauses.{Laid, clauses, soft_ordinals};
 ghost use Rattle.sheet.specs.Rows.{is_label, label_ordinals};
 ghost use Rattle.sheet.specs.Together.{Distinct, OrdinalOf};
@@ -20,7 +20,7 @@ fn ordinal_fits(softs: usize, item: Item) -> bool
 }
 
 pub(crate) fn ordinals_fit(softs: usize, row: &[Item]) -> bool
-    ensures { Decides result (All (λ x. OrdinalOf softs x.standing x.ordinal) row.now) }
+    ensures { Decides result (AllByRecursion (λ x. OrdinalOf softs x.standing x.ordinal) row.now) }
 {
     for item in row {
         if !ordinal_fits(softs, *item) {

@@ -1,6 +1,6 @@
 // Whether the records of the stack name items.
 ghost use Rattle.std.specs.Prelude.{◌≤◌, length, take, Decides};
-ghost use Rattle.std.specs.List.{AllByRecursion as All};
+ghost use Rattle.std.specs.List.{AllByRecursion};
 ghost use Rattle.sheet.specs.Literals.{Literal};
 ghost use Rattle.sheet.specs.Records.{Stacked, records};
 
@@ -10,7 +10,7 @@ use sheet::record::{Filed, newest};
 pub(crate) fn records_stand(items: usize, stack: &[u16], fill: usize) -> bool
     requires fits { fill ≤ length stack.now }
     requires laid { Stacked (take fill stack.now) }
-    ensures { Decides result (All (λ r. All (Literal items) r.lits) (records (take fill stack.now))) }
+    ensures { Decides result (AllByRecursion (λ r. AllByRecursion (Literal items) r.lits) (records (take fill stack.now))) }
 {
     let mut end = fill;
     while end > 0 {

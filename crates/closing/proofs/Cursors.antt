@@ -1,6 +1,6 @@
 -- A cursor over the clauses of a sheet whose literals name the items 1 to n. Assumes nothing.
 use Rattle.std.proofs.Common.{◌≡◌, ℕ, ◌≤◌, List, ◌∷◌, take, subst, arith}
-use Rattle.std.specs.List.{between, AllByRecursion as All}
+use Rattle.std.specs.List.{between, AllByRecursion}
 use Rattle.sheet.specs.declared.clause.Place.{Place}
 use Rattle.sheet.specs.Literals.{Literal}
 use Rattle.sheet.specs.Clauses.{Laid, clauses}
@@ -25,7 +25,7 @@ module _ {n : ℕ} {s : List ℕ} {at fill : ℕ} {p : Place} (ahead : Ahead n s
   both : Ranged n (placed s p ∷ clauses (between p.end fill s))
   both = subst (Ranged n) step.here ahead.ranged
 
-  pub literals_here : All (Literal n) (between p.from p.to s)
+  pub literals_here : AllByRecursion (Literal n) (between p.from p.to s)
   literals_here = both.0
 
   pub ahead_more : Ahead n s p.end fill

@@ -1,6 +1,6 @@
 -- How often the literals of a clause name an item: once, or not at all. Assumes nothing.
 use Rattle.std.proofs.Common.{◌≡◌, ℕ, suc, ◌+◌, ◌-◌, ◌<◌, Bool, true, false, cond, ◌||◌, eqb, leb, List, [], ◌∷◌, refl, ap, ◌∙◌, arith}
-use Rattle.std.specs.List.{AllByRecursion as All}
+use Rattle.std.specs.List.{AllByRecursion}
 use Rattle.std.proofs.ByRecursion.{All-weaker}
 use Rattle.std.proofs.lemmas.Bool.{cond_both, cond-false, eqb-true, ne_eqb, eqb-false, or_from, or_parts, leb-true, leb-false}
 use Rattle.sheet.specs.Literals.{item_of, opposite, has, Normal, Literal}
@@ -14,7 +14,7 @@ apart v w p q lt ne e =
     (λ t f. let m = leb-true 32768 v t in omega arith)
     (λ t f. let m = leb-false 32768 v t in f (omega arith)) ne
 
-names_none : (i : ℕ) (ws : List ℕ) → All (λ w. i ≡ item_of w → ⊥) ws → names i ws ≡ false
+names_none : (i : ℕ) (ws : List ℕ) → AllByRecursion (λ w. i ≡ item_of w → ⊥) ws → names i ws ≡ false
 names_none i [] h = refl
 names_none i (x ∷ xs) h = or_from (eqb i (item_of x)) _ (ne_eqb i (item_of x) h.0) (names_none i xs h.1)
 
@@ -24,12 +24,12 @@ namings_none i (x ∷ xs) h =
     let p = or_parts (eqb i (item_of x)) (names i xs) h in
     cond-false (eqb i (item_of x)) _ _ p.0 ∙ namings_none i xs p.1
 
-not_has : (v : ℕ) (ws : List ℕ) → has v ws ≡ false → All (λ w. w ≡ v → ⊥) ws
+not_has : (v : ℕ) (ws : List ℕ) → has v ws ≡ false → AllByRecursion (λ w. w ≡ v → ⊥) ws
 not_has v [] h = tt
 not_has v (x ∷ xs) h = let p = or_parts (eqb x v) (has v xs) h in (eqb-false x v p.0, not_has v xs p.1)
 
 -- no other literal has the first one's item
-others : (n x : ℕ) (ws : List ℕ) → Literal n x → All (Literal n) ws → All (λ w. x < w) ws → All (λ w. w ≡ opposite x → ⊥) ws → All (λ w. item_of x ≡ item_of w → ⊥) ws
+others : (n x : ℕ) (ws : List ℕ) → Literal n x → AllByRecursion (Literal n) ws → AllByRecursion (λ w. x < w) ws → AllByRecursion (λ w. w ≡ opposite x → ⊥) ws → AllByRecursion (λ w. item_of x ≡ item_of w → ⊥) ws
 others n x [] l lits r h = tt
 others n x (w ∷ ws) l lits r h = (apart x w l.word lits.0.word r.0 h.0, others n x ws l lits.1 r.1 h.1)
 
@@ -39,7 +39,7 @@ normal_tail x xs h = record {
   one_sign = All-weaker (λ w. has (opposite w) (x ∷ xs) ≡ false) (λ w. has (opposite w) xs ≡ false) (λ w e. (or_parts (eqb x (opposite w)) (has (opposite w) xs) e).1) xs h.one_sign.1;
 }
 
-pub namings_normal : (n i : ℕ) (ws : List ℕ) → All (Literal n) ws → Normal ws → namings i ws ≡ cond (names i ws) 1 0
+pub namings_normal : (n i : ℕ) (ws : List ℕ) → AllByRecursion (Literal n) ws → Normal ws → namings i ws ≡ cond (names i ws) 1 0
 namings_normal n i [] lits h = refl
 namings_normal n i (x ∷ xs) lits h = split (eqb i (item_of x)) refl (namings_normal n i xs lits.1 (normal_tail x xs h))
   where

@@ -1,6 +1,6 @@
 -- The tables of group detection, literal by literal and clause by clause. Assumes nothing.
 use Rattle.std.proofs.Common.{◌≡◌, ℕ, suc, ◌+◌, ◌<◌, ◌≤◌, min, Bool, true, false, cond, ◌||◌, eqb, ◌⊎◌, List, [], ◌∷◌, length, get_or, drop, set, replicate, sym, refl, ap, ◌∙◌, inl, inr, arith, lit<}
-use Rattle.std.specs.List.{AllByRecursion as All}
+use Rattle.std.specs.List.{AllByRecursion}
 use Rattle.std.proofs.lemmas.List.{get_or-set_same, get_or-set_other, get_or_past, get_or-replicate, drop_all}
 use Rattle.std.proofs.ByRecursion.{All-get_or}
 use Rattle.std.proofs.lemmas.Bool.{cases_lt, cases_eq, eq-eqb, ne_eqb, cond-true, cond-false}
@@ -12,7 +12,7 @@ use Rattle.closing.specs.declared.survey.Survey.{Survey}
 use Rattle.closing.specs.Surveys.{Capped, Counted, Noted, Surveys, namings}
 
 -- an item has its place in the tables
-pub slot_inside : (ws : List ℕ) (k : ℕ) → All (Literal 2000) ws → item_of (get_or ws k 0) < 2001
+pub slot_inside : (ws : List ℕ) (k : ℕ) → AllByRecursion (Literal 2000) ws → item_of (get_or ws k 0) < 2001
 slot_inside ws k lits = split (cases_lt k (length ws))
   where
     split : (k < length ws) ⊎ (length ws ≤ k) → item_of (get_or ws k 0) < 2001

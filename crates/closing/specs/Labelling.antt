@@ -1,6 +1,6 @@
 -- The clauses of a gathered sheet once each soft has its label, and what a close wants of the buffers. Assumes nothing.
 use Rattle.std.specs.Prelude.{◌≡◌, ℕ, suc, ◌+◌, ◌-◌, ◌<◌, ◌≤◌, Bool, true, cond, not, List, [], ◌∷◌, ◌++◌, length, take, drop, filter, ◌≢◌}
-use Rattle.std.specs.List.{between, AllByRecursion as All}
+use Rattle.std.specs.List.{between, AllByRecursion}
 use Rattle.sheet.specs.Literals.{Literal, Rising}
 use Rattle.sheet.specs.declared.row.Item.{Item}
 use Rattle.sheet.specs.declared.clause.Tag.{Tag}
@@ -13,7 +13,7 @@ clause_of tag lits = record { tag = tag; lits = lits }
 
 -- every literal names one of the items 1 to n
 abbrev pub Ranged : ℕ → List Clause → Type 0
-Ranged n cs = All (λ c. All (Literal n) c.lits) cs
+Ranged n cs = AllByRecursion (λ c. AllByRecursion (Literal n) c.lits) cs
 
 -- a soft that lends its item is still a soft, every other clause works
 abbrev pub labelled_clause : List Clause → Tag → List ℕ → List Item → Clause
@@ -71,4 +71,4 @@ pub record CanTake (sheet : List ℕ) (at end label : ℕ) : Type 0 where
   pub fits : end ≤ length sheet
   pub count : end - at ≤ 4096
   pub rising : Rising (between (at + 1) (end - 1) sheet)
-  pub fresh : All (λ w. label ≢ w) (between (at + 1) (end - 1) sheet)
+  pub fresh : AllByRecursion (λ w. label ≢ w) (between (at + 1) (end - 1) sheet)

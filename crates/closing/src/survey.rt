@@ -6,7 +6,7 @@ ghost use Rattle.closing.specs.Surveys.{Capped, Counted, Noted, Surveys, namings
 ghost use Rattle.meaning.specs.Calls.{in_hard, lends_item, softs_naming};
 ghost use Rattle.sheet.specs.Clauses.{Clause, Laid, clauses};
 ghost use Rattle.sheet.specs.Literals.{Literal, Normal, has};
-ghost use Rattle.std.specs.List.{AllByRecursion as All};
+ghost use Rattle.std.specs.List.{AllByRecursion};
 
 use sheet::clause::{Place, Tag, read};
 use sheet::literal::SIGN;
@@ -33,7 +33,7 @@ fn is_alone(count: u8) -> bool
 impl Survey {
     // Counts a soft at each item that it names.
     fn note_soft(&mut self, lits: &[u16])
-        requires literals { All (Literal 2000) lits.now }
+        requires literals { AllByRecursion (Literal 2000) lits.now }
         requires capped { Capped self.old.naming }
         ensures naming { Counted self.old.naming self.new.naming (λ i. namings i lits.now) }
         ensures capped { Capped self.new.naming }
@@ -47,7 +47,7 @@ impl Survey {
 
     // Notes each item that a hard clause denies.
     fn note_hard(&mut self, lits: &[u16])
-        requires { All (Literal 2000) lits.now }
+        requires { AllByRecursion (Literal 2000) lits.now }
         ensures naming { self.new.naming ≡ self.old.naming }
         ensures denials { Noted self.old.denials self.new.denials (λ i. has (i + 32768) lits.now) }
     {
@@ -57,7 +57,7 @@ impl Survey {
     }
 
     fn note(&mut self, tag: Tag, lits: &[u16])
-        requires literals { All (Literal 2000) lits.now }
+        requires literals { AllByRecursion (Literal 2000) lits.now }
         requires normal { Normal lits.now }
         requires capped { Capped self.old.naming }
         ensures naming { Counted self.old.naming self.new.naming (λ i. softs_naming i (clause_of tag lits.now ∷ [])) }
@@ -93,7 +93,7 @@ impl Survey {
 
     // Whether a soft lends its item as its label: it is the unit "not n", no other soft names n, and no hard clause has "not n".
     pub fn lends(&self, lits: &[u16]) -> bool
-        requires { All (Literal 2000) lits.now }
+        requires { AllByRecursion (Literal 2000) lits.now }
         ensures { (all : List Clause) → Surveys all self.now → result ≡ lends_item all lits.now }
     {
         match lits {
@@ -107,7 +107,7 @@ impl Survey {
 
     // How many items a clause's label adds: a soft that does not lend its item wants a fresh one.
     fn fresh_items(&self, tag: Tag, lits: &[u16]) -> usize
-        requires { All (Literal 2000) lits.now }
+        requires { AllByRecursion (Literal 2000) lits.now }
         ensures { (all : List Clause) → Surveys all self.now → result ≡ fresh_labels all (clause_of tag lits.now ∷ []) }
     {
         match tag {

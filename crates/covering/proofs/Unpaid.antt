@@ -1,7 +1,7 @@
 -- One step of subsumed label elimination on the buffers is one on the sheet that they stand for. Assumes nothing.
 use Rattle.std.proofs.Common.{◌≡◌, ℕ, ◌+◌, ◌<◌, ◌≤◌, min, Bool, true, List, [], ◌∷◌, ◌++◌, map, length, take, drop, is_some, Some, None, filter, Option, sym, refl, ap, ◌∙◌, subst, ap₂, arith}
 use Rattle.std.specs.Option.{option_map}
-use Rattle.std.specs.List.{AllByRecursion as All}
+use Rattle.std.specs.List.{AllByRecursion}
 use Rattle.std.proofs.lemmas.List.{length-set, length-take-le}
 use Rattle.std.proofs.lemmas.Bool.{and_parts, both_ways, cond-false, cond-true, le-leb, lt-leb, not_from_false}
 use Rattle.weight.specs.Kind.{Lawful}
@@ -43,7 +43,7 @@ fits_always room s = true
 abbrev pub Eliminating : {W : Type 0} (m : Ghosts W) → Lawful m.kind → ℕ → Lent W → Lent W → ℕ → Type 0
 Eliminating m laws = Stepping m laws (covering m.kind) fits_always (λ room. covering_keeps laws)
 
-kept_all : {X : Type 0} (p : X → Bool) (xs : List X) → All (λ x. p x ≡ true) xs → filter p xs ≡ xs
+kept_all : {X : Type 0} (p : X → Bool) (xs : List X) → AllByRecursion (λ x. p x ≡ true) xs → filter p xs ≡ xs
 kept_all p [] all = refl
 kept_all p (x ∷ xs) all = cond-true (p x) _ _ all.0 ∙ ap (λ ys. x ∷ ys) (kept_all p xs all.1)
 

@@ -1,6 +1,6 @@
 -- What a search for labels looks at. Assumes nothing.
 use Rattle.std.specs.Prelude.{◌≡◌, ℕ, ◌<◌, ◌≤◌, Bool, false, List, [], map, length}
-use Rattle.std.specs.List.{AllByRecursion as All}
+use Rattle.std.specs.List.{AllByRecursion}
 use Rattle.weight.specs.declared.kind.Weight.{Ghosts}
 use Rattle.sheet.specs.Clauses.{Clause}
 use Rattle.sheet.specs.declared.row.Item.{Item}
@@ -13,7 +13,7 @@ seen m cs row weights = record { callers = 0; row = row; clauses = cs; stack = [
 
 -- each label has one of the weights
 abbrev pub Weighed : {W : Type 0} → List Item → List W → Type 0
-Weighed row weights = All (λ x. OrdinalOf (length weights) x.standing x.ordinal) row
+Weighed row weights = AllByRecursion (λ x. OrdinalOf (length weights) x.standing x.ordinal) row
 
 -- no item below this one passes
 abbrev pub NoneBelow : (ℕ → Bool) → ℕ → Type 0

@@ -1,6 +1,6 @@
 -- What stands on sheet and stack once the resolvents and the records are written and the clauses of the item are gone. Assumes nothing.
 use Rattle.std.proofs.Common.{◌≡◌, ℕ, ◌+◌, ◌≤◌, min, Bool, true, leb, List, [], ◌∷◌, ◌++◌, length, take, Some, filter, sym, refl, ap, ◌∙◌, subst, ap₂, arith}
-use Rattle.std.specs.List.{AllByRecursion as All}
+use Rattle.std.specs.List.{AllByRecursion}
 use Rattle.std.proofs.lemmas.List.Elements.{filter-append}
 use Rattle.std.proofs.ByRecursion.{All-append}
 use Rattle.std.proofs.lemmas.Bool.{and_parts, and_from, cond-true, le-leb}
@@ -14,16 +14,16 @@ use Rattle.steps.specs.Elimination.{resolvents, lacks_both, elimination_records,
 use Rattle.elimination.specs.Eliminating.{Eliminable, Words, clauses_of, step_fits, Made}
 use Rattle.elimination.specs.Writing.{Wrote, WroteClauses}
 
-all_counted : (cs : List Clause) → every is_counted cs ≡ true → All (λ c. is_counted c ≡ true → Valid c) cs → All Valid cs
+all_counted : (cs : List Clause) → every is_counted cs ≡ true → AllByRecursion (λ c. is_counted c ≡ true → Valid c) cs → AllByRecursion Valid cs
 all_counted [] few valid = tt
 all_counted (c ∷ cs) few valid = let parts = and_parts (is_counted c) (every is_counted cs) few in (valid.0 parts.0, all_counted cs parts.1 valid.1)
 
-kept_all : (keep : Clause → Bool) (cs : List Clause) → All (λ c. keep c ≡ true) cs → filter keep cs ≡ cs
+kept_all : (keep : Clause → Bool) (cs : List Clause) → AllByRecursion (λ c. keep c ≡ true) cs → filter keep cs ≡ cs
 kept_all keep [] all = refl
 kept_all keep (c ∷ cs) all = cond-true (keep c) (c ∷ filter keep cs) (filter keep cs) all.0 ∙ ap (λ ds. c ∷ ds) (kept_all keep cs all.1)
 
 -- clauses written behind laid words
-module _ (front : List ℕ) (new : List Clause) (laid : Laid front) (valid : All Valid new) where
+module _ (front : List ℕ) (new : List Clause) (laid : Laid front) (valid : AllByRecursion Valid new) where
   pub laid_behind : Laid (front ++ encode new)
   laid_behind = laid_append front (encode new) laid (laid_encode new valid)
 
@@ -31,11 +31,11 @@ module _ (front : List ℕ) (new : List Clause) (laid : Laid front) (valid : All
   clauses_behind = clauses_append front (encode new) laid ∙ ap (λ cs. clauses front ++ cs) (clauses_encode new valid)
 
 -- records written behind stacked words
-module _ (front : List ℕ) (new : List Record) (stacked : Stacked front) (valid : All ValidRecord new) where
+module _ (front : List ℕ) (new : List Record) (stacked : Stacked front) (valid : AllByRecursion ValidRecord new) where
   words_behind : front ++ encode_stack new ≡ encode_stack (records front ++ new)
   words_behind = ap (λ ws. ws ++ encode_stack new) (sym (stacked_words front stacked)) ∙ sym (encode_stack_append (records front) new)
 
-  both : All ValidRecord (records front ++ new)
+  both : AllByRecursion ValidRecord (records front ++ new)
   both = All-append ValidRecord (records front) new (stacked_valid front stacked) valid
 
   pub stacked_behind : Stacked (front ++ encode_stack new)
@@ -49,7 +49,7 @@ module _ (x : ℕ) (b : Words) (laid : Laid (take b.marks.sheet b.sheet)) (item 
   abbrev new : List Clause
   new = resolvents x (clauses_of b)
 
-  valid : All Valid new
+  valid : AllByRecursion Valid new
   valid = all_counted new wrote.cases.0 item.valid
 
   pub all_laid : Laid (take end cur)

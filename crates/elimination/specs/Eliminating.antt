@@ -1,6 +1,6 @@
 -- One elimination over lent words: what it asks, and what it makes or leaves. Assumes nothing.
 use Rattle.std.specs.Prelude.{◌≡◌, ℕ, ◌+◌, min, Bool, true, false, ◌&&◌, List, ◌++◌, length, take, filter, nat_le}
-use Rattle.std.specs.List.{AllByRecursion as All}
+use Rattle.std.specs.List.{AllByRecursion}
 use Rattle.sheet.specs.declared.buffers.Marks.{Marks}
 use Rattle.sheet.specs.Clauses.{Clause, Laid, Valid, clauses, encode}
 use Rattle.sheet.specs.Records.{Stacked, ValidRecord, records, encode_stack}
@@ -10,9 +10,9 @@ use Rattle.steps.specs.Elimination.{resolvents, lacks_both, elimination_records,
 
 -- the resolvents follow the layout where a header can count them, and have the item no more; and so do the records
 pub record Eliminable (x : ℕ) (cs : List Clause) : Type 0 where
-  pub valid : All (λ c. is_counted c ≡ true → Valid c) (resolvents x cs)
-  pub apart : All (λ c. lacks_both x c ≡ true) (resolvents x cs)
-  pub records : All ValidRecord (elimination_records x cs)
+  pub valid : AllByRecursion (λ c. is_counted c ≡ true → Valid c) (resolvents x cs)
+  pub apart : AllByRecursion (λ c. lacks_both x c ≡ true) (resolvents x cs)
+  pub records : AllByRecursion ValidRecord (elimination_records x cs)
 
 -- sheet and stack, with their marks
 pub record Words : Type 0 where

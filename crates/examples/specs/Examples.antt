@@ -1,6 +1,6 @@
 -- Worked examples: what the definitions come to, as numbers, beside what they should come to. A row is named by what it shows. Assumes nothing.
 use Rattle.std.specs.Prelude.{List, [], ◌∷◌}
-use Rattle.std.specs.List.{AllByRecursion as All}
+use Rattle.std.specs.List.{AllByRecursion}
 use Rattle.weight.specs.Kind.{total_of}
 use Rattle.weight.specs.Wholes.{wholes}
 use Rattle.examples.specs.Showing.{Example, Holds}
@@ -36,4 +36,4 @@ rows =
     ∷ []
 
 abbrev pub EveryRowHolds : Type 0
-EveryRowHolds = All Holds rows
+EveryRowHolds = AllByRecursion Holds rows

@@ -1,6 +1,6 @@
 -- Values that agree where it counts meet and cost the same. Assumes nothing.
 use Rattle.std.proofs.Common.{◌≡◌, ℕ, suc, ◌+◌, ◌<◌, Bool, true, cond, not, ◌&&◌, ◌||◌, List, [], ◌∷◌, length, get_or, ℤ, pos, negsuc, refl, ap, ap₂, arith}
-use Rattle.std.specs.List.{AllByRecursion as All}
+use Rattle.std.specs.List.{AllByRecursion}
 use Rattle.std.proofs.ByRecursion.{All-weaker}
 use Rattle.weight.specs.Kind.{Kind}
 use Rattle.sheet.specs.Literals.{Literal, item_of, denied}
@@ -21,25 +21,25 @@ Below n u v = (i : ℕ) → i < n → u i ≡ v i
 -- Clauses, by the items that they name.
 
 abbrev pub Alike : Values → Values → List ℕ → Type 0
-Alike u v = All (λ w. u (item_of w) ≡ v (item_of w))
+Alike u v = AllByRecursion (λ w. u (item_of w) ≡ v (item_of w))
 
 pub met_alike : (u v : Values) (ws : List ℕ) → Alike u v ws → met u ws ≡ met v ws
 met_alike u v [] same = refl
 met_alike u v (w ∷ ws) same = ap₂ (λ (x y : Bool). cond (denied w) (not x) x || y) same.0 (met_alike u v ws same.1)
 
-pub meets_alike : (u v : Values) (cs : List Clause) → All (λ c. Alike u v c.lits) cs → meets_all u cs ≡ meets_all v cs
+pub meets_alike : (u v : Values) (cs : List Clause) → AllByRecursion (λ c. Alike u v c.lits) cs → meets_all u cs ≡ meets_all v cs
 meets_alike u v [] same = refl
 meets_alike u v (c ∷ cs) same = ap₂ (λ (x y : Bool). kept_as c.tag x && y) (met_alike u v c.lits same.0) (meets_alike u v cs same.1)
 
 -- literals of the items 1 to n
-pub alike_below : (n : ℕ) (u v : Values) → Below (suc n) u v → (ws : List ℕ) → All (Literal n) ws → Alike u v ws
+pub alike_below : (n : ℕ) (u v : Values) → Below (suc n) u v → (ws : List ℕ) → AllByRecursion (Literal n) ws → Alike u v ws
 alike_below n u v same ws literals = All-weaker _ _ (λ w is. same (item_of w) (omega arith)) ws literals
 
-pub clauses_below : (n : ℕ) (u v : Values) → Below (suc n) u v → (cs : List Clause) → All (λ c. All (Literal n) c.lits) cs → All (λ c. Alike u v c.lits) cs
+pub clauses_below : (n : ℕ) (u v : Values) → Below (suc n) u v → (cs : List Clause) → AllByRecursion (λ c. AllByRecursion (Literal n) c.lits) cs → AllByRecursion (λ c. Alike u v c.lits) cs
 clauses_below n u v same cs literals = All-weaker _ _ (λ c. alike_below n u v same c.lits) cs literals
 
 abbrev pub SentAlike : Values → Values → List ℤ → Type 0
-SentAlike u v = All (λ z. u (sent_item z) ≡ v (sent_item z))
+SentAlike u v = AllByRecursion (λ z. u (sent_item z) ≡ v (sent_item z))
 
 sent_true_alike : (u v : Values) (z : ℤ) → u (sent_item z) ≡ v (sent_item z) → sent_true u z ≡ sent_true v z
 sent_true_alike u v (pos n) same = same
@@ -50,11 +50,11 @@ sent_met_alike u v [] same = refl
 sent_met_alike u v (z ∷ zs) same = ap₂ (λ (x y : Bool). x || y) (sent_true_alike u v z same.0) (sent_met_alike u v zs same.1)
 
 module _ {V : Type 0} (k : Kind V) where
-  pub softs_alike : (weights : List V) (u v : Values) (cs : List Clause) → All (λ c. Alike u v c.lits) cs → soft_cost k weights u cs ≡ soft_cost k weights v cs
+  pub softs_alike : (weights : List V) (u v : Values) (cs : List Clause) → AllByRecursion (λ c. Alike u v c.lits) cs → soft_cost k weights u cs ≡ soft_cost k weights v cs
   softs_alike weights u v [] same = refl
   softs_alike weights u v (c ∷ cs) same = ap₂ (λ (x : Bool) (y : V). k.sum (owed k weights c.tag x) y) (met_alike u v c.lits same.0) (softs_alike weights u v cs same.1)
 
-  pub plans_alike : (u v : Values) (acc : List (Accepted V)) → All (λ a. SentAlike u v (sent_of a)) acc → (keeps_hard u acc ≡ keeps_hard v acc) × (plan_cost k acc u ≡ plan_cost k acc v)
+  pub plans_alike : (u v : Values) (acc : List (Accepted V)) → AllByRecursion (λ a. SentAlike u v (sent_of a)) acc → (keeps_hard u acc ≡ keeps_hard v acc) × (plan_cost k acc u ≡ plan_cost k acc v)
   plans_alike u v [] same = (refl, refl)
   plans_alike u v (must zs ∷ rest) same = let later = plans_alike u v rest same.1 in (ap₂ (λ (x y : Bool). x && y) (sent_met_alike u v zs same.0) later.0, later.1)
   plans_alike u v (wish zs w ∷ rest) same = let later = plans_alike u v rest same.1 in (later.0, ap₂ (λ (x : Bool) (y : V). k.sum (cond x k.zero w) y) (sent_met_alike u v zs same.0) later.1)

@@ -1,6 +1,6 @@
 -- Each soft of a sheet that closes gets its label. Assumes nothing.
 use Rattle.std.proofs.Common.{◌≡◌, ℕ, suc, ◌-◌, Bool, true, false, cond, List, [], ◌∷◌, ◌++◌, length, set, refl, ap, ◌∙◌, arith}
-use Rattle.std.specs.List.{AllByRecursion as All}
+use Rattle.std.specs.List.{AllByRecursion}
 use Rattle.std.proofs.ByRecursion.{All-append, All-weaker}
 use Rattle.std.proofs.lemmas.Bool.{both_ways}
 use Rattle.sheet.specs.declared.row.Item.{Item}
@@ -38,10 +38,10 @@ module _ (all : List Clause) (n : ℕ) where
       labelled_here _ (suc (length row)) o (push_here row (label_item o)),
     )
 
-  behind : (row : List Item) (c : Clause) (cs : List Clause) → Waiting all n row (c ∷ cs) → Keeps row (row_behind all row c) × All (HasLabel (row_behind all row c)) (ordinal_of c.tag)
+  behind : (row : List Item) (c : Clause) (cs : List Clause) → Waiting all n row (c ∷ cs) → Keeps row (row_behind all row c) × AllByRecursion (HasLabel (row_behind all row c)) (ordinal_of c.tag)
   behind row c cs = by_tag c.tag c.lits
     where
-      by_tag : (t : Tag) (ws : List ℕ) → Waiting all n row (record { tag = t; lits = ws } ∷ cs) → Keeps row (labelled_row all t ws row) × All (HasLabel (labelled_row all t ws row)) (ordinal_of t)
+      by_tag : (t : Tag) (ws : List ℕ) → Waiting all n row (record { tag = t; lits = ws } ∷ cs) → Keeps row (labelled_row all t ws row) × AllByRecursion (HasLabel (labelled_row all t ws row)) (ordinal_of t)
       by_tag Hard ws r = (λ i label. refl, tt)
       by_tag (Soft o) ws r = let new = soft_label row o ws cs r (lends_item all ws) refl in (new.0, (new.1, tt))
       by_tag Working ws r = (λ i label. refl, tt)
@@ -52,7 +52,7 @@ module _ (all : List Clause) (n : ℕ) where
       let here = (behind row c cs r).0 i label in
       closed_keeps (row_behind all row c) cs (waiting_behind all n row c cs r) i (ap (λ x. is_label x.standing) here ∙ label) ∙ here
 
-  pub closed_labels : (row : List Item) (cs : List Clause) → Waiting all n row cs → All (HasLabel (closed_row all row cs)) (soft_ordinals cs)
+  pub closed_labels : (row : List Item) (cs : List Clause) → Waiting all n row cs → AllByRecursion (HasLabel (closed_row all row cs)) (soft_ordinals cs)
   closed_labels row [] r = tt
   closed_labels row (c ∷ cs) r =
       let next : List Item = row_behind all row c in

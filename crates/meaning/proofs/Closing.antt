@@ -1,7 +1,7 @@
 -- A closed sheet is faithful: its labels cost what its softs cost. Assumes nothing.
 use Rattle.std.proofs.Common.{◌≡◌, ℕ, zero, suc, ◌+◌, ◌-◌, ◌<◌, ◌≤◌, Bool, true, false, cond, not, ◌&&◌, ◌||◌, List, [], ◌∷◌, ◌++◌, length, set, replicate, sym, refl, ap, ◌∙◌, ap₂, zero-add, arith}
 use mathlib.Core.Bool.{and-true, or-not_self, not-or_self, not-not}
-use Rattle.std.specs.List.{AllByRecursion as All, range_with_len}
+use Rattle.std.specs.List.{AllByRecursion, range_with_len}
 use Rattle.std.proofs.lemmas.List.FromFn.{length-range_with_len, get_or-range_with_len}
 use Rattle.std.proofs.ByRecursion.{All-get_or, All-weaker}
 use Rattle.std.proofs.lemmas.List.{length-set, length_push, get_or-replicate}
@@ -44,13 +44,13 @@ module _ {V : Type 0} (k : Kind V) (weights : List V) where
   -- One clause closes: `behind` is the row with its label, and `made` what becomes of it.
   record Closes (c : Clause) (row behind : List Item) (made : List Clause) : Type 0 where
     longer : length row ≤ length behind
-    literals : All (λ d. All (Literal (length behind)) d.lits) made
+    literals : AllByRecursion (λ d. AllByRecursion (Literal (length behind)) d.lits) made
     back : (v : Values) → meets_all v made ≡ true → keeps v c × AtMost k (k.sum (labels row v) (owes c v)) (labels behind v)
     forth : (v : Values) → keeps v c → (u : Values) × Below (suc (length row)) u v × (meets_all u made ≡ true) × (labels behind u ≡ k.sum (labels row v) (owes c v))
 
 module _ {V : Type 0} {k : Kind V} (laws : Lawful k) (weights : List V) where
   -- a clause that is no soft stays what it is
-  keep : (t : Tag) (ws : List ℕ) (row : List Item) → ((b : Bool) → (kept_as t b ≡ b) × (owed k weights t b ≡ k.zero)) → All (Literal (length row)) ws → Closes k weights (record { tag = t; lits = ws }) row row (record { tag = Working; lits = ws } ∷ [])
+  keep : (t : Tag) (ws : List ℕ) (row : List Item) → ((b : Bool) → (kept_as t b ≡ b) × (owed k weights t b ≡ k.zero)) → AllByRecursion (Literal (length row)) ws → Closes k weights (record { tag = t; lits = ws }) row row (record { tag = Working; lits = ws } ∷ [])
   keep t ws row hard literals =
       let nothing : (v : Values) → k.sum (labels k weights row v) (owed k weights t (met v ws)) ≡ labels k weights row v = λ v. ap (k.sum _) (hard (met v ws)).1 ∙ laws.sum_zero _ in
       record {
@@ -71,7 +71,7 @@ module _ {V : Type 0} {k : Kind V} (laws : Lawful k) (weights : List V) where
   owed_exactly w label false tells = ap (λ b. cond b w k.zero) tells
 
   -- a soft whose label is item m
-  label : (o m : ℕ) (ws : List ℕ) (row behind : List Item) (made : List Clause) → length row ≤ length behind → All (λ d. All (Literal (length behind)) d.lits) made →
+  label : (o m : ℕ) (ws : List ℕ) (row behind : List Item) (made : List Clause) → length row ≤ length behind → AllByRecursion (λ d. AllByRecursion (Literal (length behind)) d.lits) made →
       ((v : Values) → labels k weights behind v ≡ k.sum (cond (v m) (weight_of k weights o) k.zero) (labels k weights row v)) →
       ((v : Values) → meets_all v made ≡ true → (v m || met v ws) ≡ true) →
       ((v : Values) → (u : Values) × Below (suc (length row)) u v × (meets_all u made ≡ true) × (u m ≡ not (met v ws))) →
@@ -127,7 +127,7 @@ module _ {V : Type 0} {k : Kind V} (laws : Lawful k) (weights : List V) where
     close : (row : List Item) (c : Clause) (cs : List Clause) → Waiting all n row (c ∷ cs) → Closes k weights c row (row_behind all row c) (made_of all row c)
     close row c cs = by_tag c.tag c.lits
       where
-        wider : (ws : List ℕ) → n ≤ length row → All (Literal n) ws → All (Literal (length row)) ws
+        wider : (ws : List ℕ) → n ≤ length row → AllByRecursion (Literal n) ws → AllByRecursion (Literal (length row)) ws
         wider ws wide literals = All-weaker _ _ (λ w is. omega arith) ws literals
 
         by_tag : (t : Tag) (ws : List ℕ) → Waiting all n row (record { tag = t; lits = ws } ∷ cs) → Closes k weights (record { tag = t; lits = ws }) row (labelled_row all t ws row) (working_clause all t ws row)

@@ -1,6 +1,6 @@
 -- How costs grow with clauses, weights and items. Assumes nothing.
 use Rattle.std.proofs.Common.{◌≡◌, ℕ, zero, suc, ◌+◌, ◌-◌, ◌<◌, ◌≤◌, true, false, cond, List, [], ◌∷◌, ◌++◌, length, get_or, set, sym, refl, ap, ◌∙◌, ap₂, arith}
-use Rattle.std.specs.List.{AllByRecursion as All}
+use Rattle.std.specs.List.{AllByRecursion}
 use Rattle.std.proofs.lemmas.List.{get_or_append_left}
 use Rattle.std.proofs.lemmas.Bool.{both_ways}
 use Rattle.weight.specs.Kind.{Kind, Lawful}
@@ -34,16 +34,16 @@ module _ {V : Type 0} {k : Kind V} (laws : Lawful k) where
   softs_append weights v [] ys = sym (zero_sum laws (soft_cost k weights v ys))
   softs_append weights v (c ∷ cs) ys = ap (k.sum _) (softs_append weights v cs ys) ∙ sym (laws.sum_assoc (owed k weights c.tag (met v c.lits)) (soft_cost k weights v cs) (soft_cost k weights v ys))
 
-  pub working_free : (weights : List V) (v : Values) (cs : List Clause) → All (λ c. c.tag ≡ Working) cs → soft_cost k weights v cs ≡ k.zero
+  pub working_free : (weights : List V) (v : Values) (cs : List Clause) → AllByRecursion (λ c. c.tag ≡ Working) cs → soft_cost k weights v cs ≡ k.zero
   working_free weights v [] working = refl
   working_free weights v (c ∷ cs) working = ap₂ (λ (t : Tag) (x : V). k.sum (owed k weights t (met v c.lits)) x) working.0 (working_free weights v cs working.1) ∙ laws.sum_zero k.zero
 
   -- one weight more is none of the softs'
-  pub weights_push : (weights : List V) (w : V) (v : Values) (cs : List Clause) → All (λ n. n < length weights) (soft_ordinals cs) → soft_cost k (weights ++ (w ∷ [])) v cs ≡ soft_cost k weights v cs
+  pub weights_push : (weights : List V) (w : V) (v : Values) (cs : List Clause) → AllByRecursion (λ n. n < length weights) (soft_ordinals cs) → soft_cost k (weights ++ (w ∷ [])) v cs ≡ soft_cost k weights v cs
   weights_push weights w v [] ranged = refl
   weights_push weights w v (c ∷ cs) ranged = by_tag c.tag ranged (weights_push weights w v cs)
     where
-      by_tag : (t : Tag) → All (λ n. n < length weights) (ordinal_of t ++ soft_ordinals cs) → (All (λ n. n < length weights) (soft_ordinals cs) → soft_cost k (weights ++ (w ∷ [])) v cs ≡ soft_cost k weights v cs) → k.sum (owed k (weights ++ (w ∷ [])) t (met v c.lits)) (soft_cost k (weights ++ (w ∷ [])) v cs) ≡ k.sum (owed k weights t (met v c.lits)) (soft_cost k weights v cs)
+      by_tag : (t : Tag) → AllByRecursion (λ n. n < length weights) (ordinal_of t ++ soft_ordinals cs) → (AllByRecursion (λ n. n < length weights) (soft_ordinals cs) → soft_cost k (weights ++ (w ∷ [])) v cs ≡ soft_cost k weights v cs) → k.sum (owed k (weights ++ (w ∷ [])) t (met v c.lits)) (soft_cost k (weights ++ (w ∷ [])) v cs) ≡ k.sum (owed k weights t (met v c.lits)) (soft_cost k weights v cs)
       by_tag Hard ranged rest = ap (k.sum k.zero) (rest ranged)
       by_tag (Soft n) ranged rest = ap₂ (λ (x y : V). k.sum (cond (met v c.lits) k.zero x) y) (get_or_append_left weights (w ∷ []) k.zero n ranged.0) (rest ranged.1)
       by_tag Working ranged rest = ap (k.sum k.zero) (rest ranged)

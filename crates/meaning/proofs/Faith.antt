@@ -1,6 +1,6 @@
 -- What makes a sheet faithful. Assumes nothing.
 use Rattle.std.proofs.Common.{◌≡◌, suc, ◌+◌, true, List, [], length, get_or, ◌∙◌, ap₂, inl, inr, arith}
-use Rattle.std.specs.List.{AllByRecursion as All}
+use Rattle.std.specs.List.{AllByRecursion}
 use Rattle.std.proofs.ByRecursion.{All-weaker, all_from_every}
 use Rattle.weight.specs.Kind.{Kind, Lawful}
 use Rattle.sheet.specs.Literals.{item_of}
@@ -14,7 +14,7 @@ use Rattle.meaning.proofs.Agreement.{meets_alike, softs_alike, plans_alike, rese
 use Rattle.meaning.proofs.Cheapest.{Cheapest, cheapest}
 use Rattle.meaning.proofs.Paying.{unstacked_pays}
 
-everywhere : {X : Type 0} (P : X → Type 0) → ((x : X) → P x) → (xs : List X) → All P xs
+everywhere : {X : Type 0} (P : X → Type 0) → ((x : X) → P x) → (xs : List X) → AllByRecursion P xs
 everywhere P holds xs = all_from_every P xs (λ k d low high. holds (get_or xs k d))
 
 module _ {V : Type 0} {k : Kind V} (laws : Lawful k) where
@@ -50,7 +50,7 @@ module _ {V : Type 0} {k : Kind V} (laws : Lawful k) where
     faithful pays = record { answers_unwind = back; plans_answered = forth; least_costs_agree = least_costs; unwound_pays_no_more = pays }
 
   -- Where nothing is stacked and every item sent is live, an answer is its own plan.
-  module _ (acc : List (Accepted V)) (s : Sheet V) (empty : s.stack ≡ []) (live : All (λ a. All (λ z. live_at s.row (sent_item z) ≡ true) (sent_of a)) acc) where
+  module _ (acc : List (Accepted V)) (s : Sheet V) (empty : s.stack ≡ []) (live : AllByRecursion (λ a. AllByRecursion (λ z. live_at s.row (sent_item z) ≡ true) (sent_of a)) acc) where
     own_plan : (v : Values) → (keeps_hard (plan_of s v) acc ≡ keeps_hard v acc) × (plan_cost k acc (plan_of s v) ≡ plan_cost k acc v)
     own_plan v = rw empty (plans_alike k (reset s.row v) v acc (All-weaker _ _ (λ a. All-weaker _ _ (λ z. reset_live s.row v (sent_item z)) (sent_of a)) acc live))
 

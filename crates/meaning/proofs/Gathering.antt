@@ -1,7 +1,7 @@
 -- A gathering sheet says what the accepted clauses say. Assumes nothing.
 use Rattle.std.proofs.Common.{◌≡◌, ℕ, zero, suc, ◌+◌, ◌<◌, ◌≤◌, Bool, true, false, cond, ◌&&◌, List, [], ◌∷◌, ◌++◌, length, replicate, sym, refl, ap, ◌∙◌, ap₂, append_assoc, append-nil, arith}
 use mathlib.Core.Bool.{and_assoc, and-true}
-use Rattle.std.specs.List.{range_with_len, AllByRecursion as All}
+use Rattle.std.specs.List.{range_with_len, AllByRecursion}
 use Rattle.std.proofs.lemmas.List.FromFn.{length-range_with_len, get_or-range_with_len, map-range_with_len_more}
 use Rattle.std.proofs.ByRecursion.{All-get_or, All-push, All-weaker, All-from_get_or}
 use Rattle.std.proofs.lemmas.List.{get_or_push, length_push, length-replicate, map-id}
@@ -29,8 +29,8 @@ pub record Gathered {V : Type 0} (k : Kind V) (acc : List (Accepted V)) (s : She
   pub few : length s.weights ≤ 2000
   -- the softs lie in the order of their ordinals
   pub numbered : soft_ordinals s.clauses ≡ range_with_len 0 (length s.weights)
-  pub literals : All (λ c. All (Literal s.callers) c.lits) s.clauses
-  pub sent : All (λ a. All (Sent s.callers) (sent_of a)) acc
+  pub literals : AllByRecursion (λ c. AllByRecursion (Literal s.callers) c.lits) s.clauses
+  pub sent : AllByRecursion (λ a. AllByRecursion (Sent s.callers) (sent_of a)) acc
   pub meets : (v : Values) → meets_all v s.clauses ≡ keeps_hard v acc
   pub costs : (v : Values) → soft_cost k s.weights v s.clauses ≡ plan_cost k acc v
 
@@ -61,7 +61,7 @@ ordinals_push (d ∷ cs) c = ap (λ ns. ordinal_of d.tag ++ ns) (ordinals_push c
 counting_push : (n : ℕ) → range_with_len 0 (n + 1) ≡ range_with_len 0 n ++ (n ∷ [])
 counting_push n = sym (map-id (range_with_len 0 (n + 1))) ∙ map-range_with_len_more (λ m. m) 0 n n (omega arith) ∙ ap (λ ns. ns ++ (n ∷ [])) (map-id (range_with_len 0 n))
 
-counting_below : (n : ℕ) → All (λ m. m < n) (range_with_len 0 n)
+counting_below : (n : ℕ) → AllByRecursion (λ m. m < n) (range_with_len 0 n)
 counting_below n = All-from_get_or _ (range_with_len 0 n) 0 (λ i inside. omega (arith, length-range_with_len 0 n, get_or-range_with_len 0 n i 0))
 
 module _ {V : Type 0} {k : Kind V} (laws : Lawful k) where
@@ -74,7 +74,7 @@ module _ {V : Type 0} {k : Kind V} (laws : Lawful k) where
     low : s.callers < 32768
     low = omega (arith, g.small)
 
-    tautology_gathered : (a : Accepted V) → All (Sent s.callers) (sent_of a) → tautology (normal (sent_of a)) ≡ true → Gathered k (acc ++ (a ∷ [])) s
+    tautology_gathered : (a : Accepted V) → AllByRecursion (Sent s.callers) (sent_of a) → tautology (normal (sent_of a)) ≡ true → Gathered k (acc ++ (a ∷ [])) s
     tautology_gathered a sent both =
         let always = λ (v : Values). always_met a v (tautology_sent_met s.callers low v (sent_of a) sent both) in
         record {
@@ -89,7 +89,7 @@ module _ {V : Type 0} {k : Kind V} (laws : Lawful k) where
           costs = λ v. g.costs v ∙ sym (plans_append laws v acc (a ∷ []) ∙ ap (k.sum (plan_cost k acc v)) (always v).1 ∙ laws.sum_zero (plan_cost k acc v));
         }
 
-    stored_gathered : (a : Accepted V) → All (Sent s.callers) (sent_of a) → length (stored s a).weights ≤ 2000 → Gathered k (acc ++ (a ∷ [])) (stored s a)
+    stored_gathered : (a : Accepted V) → AllByRecursion (Sent s.callers) (sent_of a) → length (stored s a).weights ≤ 2000 → Gathered k (acc ++ (a ∷ [])) (stored s a)
     stored_gathered (must zs) sent few =
         let c : Clause = record { tag = Hard; lits = normal zs } in
         record {
@@ -134,13 +134,13 @@ module _ {V : Type 0} {k : Kind V} (laws : Lawful k) where
 
 -- every item is
 abbrev pub Live : List Item → Type 0
-Live = All (λ x. is_live x.standing ≡ true)
+Live = AllByRecursion (λ x. is_live x.standing ≡ true)
 
 pub live_at_lem : (row : List Item) → Live row → (i : ℕ) → 1 ≤ i → i ≤ length row → live_at row i ≡ true
 live_at_lem row live zero low high = absurd (omega arith)
 live_at_lem row live (suc i) low high = All-get_or _ row i absent high live
 
-pub sent_live : {V : Type 0} (n : ℕ) (row : List Item) → Live row → n ≤ length row → (acc : List (Accepted V)) → All (λ a. All (Sent n) (sent_of a)) acc → All (λ a. All (λ z. live_at row (sent_item z) ≡ true) (sent_of a)) acc
+pub sent_live : {V : Type 0} (n : ℕ) (row : List Item) → Live row → n ≤ length row → (acc : List (Accepted V)) → AllByRecursion (λ a. AllByRecursion (Sent n) (sent_of a)) acc → AllByRecursion (λ a. AllByRecursion (λ z. live_at row (sent_item z) ≡ true) (sent_of a)) acc
 sent_live n row live wide acc sent = All-weaker _ _ (λ a. All-weaker _ _ (λ z is. live_at_lem row live (sent_item z) is.0 (omega arith)) (sent_of a)) acc sent
 
 plain_live : (n : ℕ) → Live (replicate n plain_item)

@@ -1,7 +1,7 @@
 -- The row and the clauses of a sheet that closes, clause by clause. Assumes nothing.
 use Rattle.std.proofs.Common.{◌≡◌, ℕ, suc, ◌+◌, ◌-◌, ◌<◌, ◌≤◌, Bool, true, false, cond, not, ◌&&◌, eqb, List, [], ◌∷◌, ◌++◌, length, set, refl, ap, ◌∙◌, inl, inr, arith}
 use mathlib.Core.Bool.{or-false}
-use Rattle.std.specs.List.{AllByRecursion as All}
+use Rattle.std.specs.List.{AllByRecursion}
 use Rattle.std.proofs.ByRecursion.{All-append, All-set, All-push}
 use Rattle.std.proofs.lemmas.List.{length-set, length_push}
 use Rattle.std.proofs.lemmas.Bool.{both_ways, cases_Bool, cases_eq, eqb-true, eq-eqb, or_left, and_parts, cond_both}
@@ -18,7 +18,7 @@ use Rattle.meaning.proofs.Gathering.{Live}
 
 -- What is known of a soft that lends its item.
 pub record Lends (all : List Clause) (ws : List ℕ) : Type 0 where
-  pub ranged : (n : ℕ) → All (Literal n) ws → (1 ≤ only_item ws) × (only_item ws ≤ n)
+  pub ranged : (n : ℕ) → AllByRecursion (Literal n) ws → (1 ≤ only_item ws) × (only_item ws ≤ n)
   pub once : softs_naming (only_item ws) all ≡ 1
   pub named : names (only_item ws) ws ≡ true
   pub met_unless : (v : Values) → met v ws ≡ not (v (only_item ws))
@@ -46,12 +46,12 @@ module _ (all : List Clause) where
   abbrev pub made_of : List Item → Clause → List Clause
   made_of row c = working_clause all c.tag c.lits row
 
-  made_working : (row : List Item) (t : Tag) (ws : List ℕ) → All (λ c. c.tag ≡ Working) (working_clause all t ws row)
+  made_working : (row : List Item) (t : Tag) (ws : List ℕ) → AllByRecursion (λ c. c.tag ≡ Working) (working_clause all t ws row)
   made_working row Hard ws = (refl, tt)
-  made_working row (Soft o) ws = cond_both (lends_item all ws) [] (record { tag = Working; lits = insert (suc (length row)) ws } ∷ []) (All (λ c. c.tag ≡ Working)) (λ is. tt) (λ is. (refl, tt))
+  made_working row (Soft o) ws = cond_both (lends_item all ws) [] (record { tag = Working; lits = insert (suc (length row)) ws } ∷ []) (AllByRecursion (λ c. c.tag ≡ Working)) (λ is. tt) (λ is. (refl, tt))
   made_working row Working ws = (refl, tt)
 
-  pub closed_working : (row : List Item) (cs : List Clause) → All (λ c. c.tag ≡ Working) (closed_clauses all row cs)
+  pub closed_working : (row : List Item) (cs : List Clause) → AllByRecursion (λ c. c.tag ≡ Working) (closed_clauses all row cs)
   closed_working row [] = tt
   closed_working row (c ∷ cs) = All-append _ (made_of row c) _ (made_working row c.tag c.lits) (closed_working (row_behind row c) cs)
 
@@ -60,7 +60,7 @@ module _ (all : List Clause) where
     pub wide : n ≤ length row
     pub room : length row + length (soft_ordinals cs) < 32767
     pub live : Live row
-    pub literals : All (λ c. All (Literal n) c.lits) cs
+    pub literals : AllByRecursion (λ c. AllByRecursion (Literal n) c.lits) cs
     -- a caller's item that is a label is named by a soft that waits no more
     pub named : (m : ℕ) → m ≤ n → cond (label_at row m) 1 0 + softs_naming m cs ≤ softs_naming m all
 

@@ -1,7 +1,7 @@
 -- What unwinding leaves as it is, and records unwound one list after another. Assumes nothing.
 use Rattle.std.proofs.Common.{◌≡◌, ℕ, true, false, ◌&&◌, eqb, List, [], ◌∷◌, ◌++◌, sym, refl, ap, ◌∙◌, inl, inr}
 use mathlib.Core.Path.{fun_ext}
-use Rattle.std.specs.List.{AllByRecursion as All}
+use Rattle.std.specs.List.{AllByRecursion}
 use Rattle.std.proofs.lemmas.Bool.{both_ways, cases_Bool, ne_eqb, cond-false, cond_both}
 use Rattle.sheet.specs.Literals.{item_of}
 use Rattle.sheet.specs.declared.row.Item.{Item}
@@ -26,7 +26,7 @@ module _ (row : List Item) where
   witness_live r valid names = has_all _ r.witness r.lits valid.witness names
 
   -- records of live items leave the others as they are
-  pub unwound_keeps : (rs : List Record) → All ValidRecord rs → All (NamesLive row) rs → (v : Values) (i : ℕ) → live_at row i ≡ false → unwound rs v i ≡ v i
+  pub unwound_keeps : (rs : List Record) → AllByRecursion ValidRecord rs → AllByRecursion (NamesLive row) rs → (v : Values) (i : ℕ) → live_at row i ≡ false → unwound rs v i ≡ v i
   unwound_keeps [] valid names v i gone = refl
   unwound_keeps (r ∷ rs) valid names v i gone =
       let u : Values = unwound rs v in

@@ -1,6 +1,6 @@
 -- Labels by their ordinals. Assumes nothing.
 use Rattle.std.proofs.Common.{◌≡◌, ℕ, zero, suc, ◌<◌, true, List, [], ◌∷◌, length, get_or, sym, refl, ap, arith}
-use Rattle.std.specs.List.{AllByRecursion as All}
+use Rattle.std.specs.List.{AllByRecursion}
 use Rattle.std.proofs.ByRecursion.{All-get_or}
 use Rattle.std.proofs.lemmas.Bool.{both_ways, cond_both}
 use Rattle.sheet.specs.declared.row.Item.{Item}
@@ -18,18 +18,18 @@ ordinals_rest P rest x xs = cond_both (is_label x.standing) (x.ordinal ∷ label
 -- What holds of each label's ordinal, in the list and by places.
 
 module _ (P : ℕ → Type 0) where
-  ordinal_from : (row : List Item) → All P (label_ordinals row) → (j : ℕ) → is_label (get_or row j absent).standing ≡ true → P (get_or row j absent).ordinal
+  ordinal_from : (row : List Item) → AllByRecursion P (label_ordinals row) → (j : ℕ) → is_label (get_or row j absent).standing ≡ true → P (get_or row j absent).ordinal
   ordinal_from [] each j label = absurd (both_ways _ refl label)
   ordinal_from (x ∷ xs) each zero label = let first = rw label at each in first.0
-  ordinal_from (x ∷ xs) each (suc j) label = ordinal_from xs (ordinals_rest (All P) (λ n ns all. all.1) x xs each) j label
+  ordinal_from (x ∷ xs) each (suc j) label = ordinal_from xs (ordinals_rest (AllByRecursion P) (λ n ns all. all.1) x xs each) j label
 
-  ordinals_from : (row : List Item) → ((j : ℕ) → is_label (get_or row j absent).standing ≡ true → P (get_or row j absent).ordinal) → All P (label_ordinals row)
+  ordinals_from : (row : List Item) → ((j : ℕ) → is_label (get_or row j absent).standing ≡ true → P (get_or row j absent).ordinal) → AllByRecursion P (label_ordinals row)
   ordinals_from [] each = tt
   ordinals_from (x ∷ xs) each =
       let rest = ordinals_from xs (λ j. each (suc j)) in
-      cond_both (is_label x.standing) (x.ordinal ∷ label_ordinals xs) (label_ordinals xs) (All P) (λ label. (each 0 label, rest)) (λ other. rest)
+      cond_both (is_label x.standing) (x.ordinal ∷ label_ordinals xs) (label_ordinals xs) (AllByRecursion P) (λ label. (each 0 label, rest)) (λ other. rest)
 
-pub label_ranged : (n : ℕ) (row : List Item) → All (λ x. OrdinalOf n x.standing x.ordinal) row → (i : ℕ) → label_at row i ≡ true → (item_at row i).ordinal < n
+pub label_ranged : (n : ℕ) (row : List Item) → AllByRecursion (λ x. OrdinalOf n x.standing x.ordinal) row → (i : ℕ) → label_at row i ≡ true → (item_at row i).ordinal < n
 label_ranged n row ranged zero label = absurd (both_ways _ refl label)
 label_ranged n row ranged (suc j) label = below (item_at row (suc j)).standing _ label (All-get_or _ row j absent (item_inside is_label refl row (suc j) label) ranged)
   where

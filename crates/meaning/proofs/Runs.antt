@@ -1,6 +1,6 @@
 -- A run keeps a sheet faithful, and runs follow one another. Assumes nothing.
 use Rattle.std.proofs.Common.{◌≡◌, ℕ, suc, Bool, true, false, ◌&&◌, List, [], ◌++◌, length, sym, refl, ap, ◌∙◌, ap₂, inl, inr}
-use Rattle.std.specs.List.{AllByRecursion as All}
+use Rattle.std.specs.List.{AllByRecursion}
 use Rattle.std.proofs.ByRecursion.{All-drop, All-append, All-weaker}
 use Rattle.std.proofs.lemmas.List.{drop_at, append-nil, append_assoc}
 use Rattle.std.proofs.lemmas.Bool.{both_ways, cases_Bool}
@@ -33,7 +33,7 @@ module _ {V : Type 0} {k : Kind V} {s t : Sheet V} (m : Meaning k s t) where
 
   -- Unwinding.
 
-  news_valid : All ValidRecord m.news
+  news_valid : AllByRecursion ValidRecord m.news
   news_valid = rw (m.stack, drop_at s.stack m.news (length s.stack) refl) at (All-drop ValidRecord (length s.stack) t.stack m.holds.records)
 
   -- an answer of t, with the new records unwound

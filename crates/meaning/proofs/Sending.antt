@@ -1,6 +1,6 @@
 -- Clauses as they are sent say what they say as they are stored. Assumes nothing.
 use Rattle.std.proofs.Common.{◌≡◌, ℕ, suc, ◌<◌, ◌≤◌, Bool, true, ◌||◌, List, [], ◌∷◌, ℤ, pos, negsuc, sym, refl, ◌∙◌, ap₂, arith}
-use Rattle.std.specs.List.{AllByRecursion as All}
+use Rattle.std.specs.List.{AllByRecursion}
 use Rattle.std.proofs.ByRecursion.{All-weaker}
 use Rattle.sheet.specs.Literals.{Literal}
 use Rattle.meaning.specs.Answers.{Values, is_true, met}
@@ -22,12 +22,12 @@ word_literal n (pos m) low sent = omega arith
 word_literal n (negsuc m) low sent = omega arith
 
 module _ (n : ℕ) (low : n < 32768) where
-  pub normal_literals : (zs : List ℤ) → All (Sent n) zs → All (Literal n) (normal zs)
+  pub normal_literals : (zs : List ℤ) → AllByRecursion (Sent n) zs → AllByRecursion (Literal n) (normal zs)
   normal_literals zs sent = all_normal (Literal n) zs (All-weaker _ _ (λ z is. word_literal n z low is) zs sent)
 
-  pub normal_met : (v : Values) (zs : List ℤ) → All (Sent n) zs → met v (normal zs) ≡ sent_met v zs
+  pub normal_met : (v : Values) (zs : List ℤ) → AllByRecursion (Sent n) zs → met v (normal zs) ≡ sent_met v zs
   normal_met v [] sent = refl
   normal_met v (z ∷ zs) sent = met_insert v (word_of z) (normal zs) ∙ ap₂ (λ (x y : Bool). x || y) (word_true v z (omega arith)) (normal_met v zs sent.1)
 
-  pub tautology_sent_met : (v : Values) (zs : List ℤ) → All (Sent n) zs → tautology (normal zs) ≡ true → sent_met v zs ≡ true
+  pub tautology_sent_met : (v : Values) (zs : List ℤ) → AllByRecursion (Sent n) zs → tautology (normal zs) ≡ true → sent_met v zs ≡ true
   tautology_sent_met v zs sent both = sym (normal_met v zs sent) ∙ tautology_met v (normal zs) (All-weaker _ _ (λ w is. is.word) (normal zs) (normal_literals zs sent)) both

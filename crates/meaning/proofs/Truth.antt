@@ -1,7 +1,7 @@
 -- When literals are true, and clauses met. Assumes nothing.
 use Rattle.std.proofs.Common.{◌≡◌, ℕ, ◌+◌, ◌-◌, ◌<◌, true, false, not, ◌&&◌, List, [], ◌∷◌, ◌++◌, sym, refl, ap, ◌∙◌, inl, inr, arith}
 use mathlib.Core.Bool.{and_assoc, not-not}
-use Rattle.std.specs.List.{AllByRecursion as All}
+use Rattle.std.specs.List.{AllByRecursion}
 use Rattle.std.proofs.lemmas.Bool.{both_ways, cases_Bool, cases_lt, lt-leb, le-leb, or_parts, or_from}
 use Rattle.sheet.specs.Literals.{item_of, denied, opposite, has}
 use Rattle.sheet.specs.Clauses.{Clause}
@@ -35,12 +35,12 @@ opposite_true v w word = elim (cases_lt w 32768) [
       rw (sign, other, item) (sym (not-not (v (item_of w))))
 ]
 
-pub all_false : (v : Values) (ws : List ℕ) → met v ws ≡ false → All (λ w. is_true v w ≡ false) ws
+pub all_false : (v : Values) (ws : List ℕ) → met v ws ≡ false → AllByRecursion (λ w. is_true v w ≡ false) ws
 all_false v [] unmet = tt
 all_false v (w ∷ ws) unmet = let parts = or_parts (is_true v w) (met v ws) unmet in (parts.0, all_false v ws parts.1)
 
 -- where all are false, none has its opposite among them
-false_apart : (v : Values) (all ws : List ℕ) → All (λ w. is_true v w ≡ false) all → All (λ w. w < 65536) ws → All (λ w. is_true v w ≡ false) ws → clashes all ws ≡ false
+false_apart : (v : Values) (all ws : List ℕ) → AllByRecursion (λ w. is_true v w ≡ false) all → AllByRecursion (λ w. w < 65536) ws → AllByRecursion (λ w. is_true v w ≡ false) ws → clashes all ws ≡ false
 false_apart v all [] none words no_one = refl
 false_apart v all (w ∷ ws) none words no_one =
     or_from (has (opposite w) all) (clashes all ws)
@@ -50,7 +50,7 @@ false_apart v all (w ∷ ws) none words no_one =
     ])
     (false_apart v all ws none words.1 no_one.1)
 
-pub tautology_met : (v : Values) (ws : List ℕ) → All (λ w. w < 65536) ws → tautology ws ≡ true → met v ws ≡ true
+pub tautology_met : (v : Values) (ws : List ℕ) → AllByRecursion (λ w. w < 65536) ws → tautology ws ≡ true → met v ws ≡ true
 tautology_met v ws words both = elim (cases_Bool (met v ws)) [
   | inl is ↦ is
   | inr unmet ↦ let none = all_false v ws unmet in absurd (both_ways (tautology ws) (false_apart v ws ws none words none) both)

@@ -1,6 +1,6 @@
 -- What the calls make of a sheet, and the sheets that lists of calls reach. Assumes nothing.
 use Rattle.std.specs.Prelude.{◌≡◌, ℕ, suc, ◌+◌, ◌-◌, ◌≤◌, Bool, true, false, cond, not, ◌&&◌, ◌||◌, List, [], ◌∷◌, ◌++◌, length, replicate, ℤ, pos, negsuc, ◌==◌, nat_lt, slice_set}
-use Rattle.std.specs.List.{AllByRecursion as All}
+use Rattle.std.specs.List.{AllByRecursion}
 use Rattle.weight.specs.Kind.{Kind, total_of}
 use Rattle.sheet.specs.Literals.{item_of, denied, opposite, has}
 use Rattle.sheet.specs.declared.row.Item.{Item}
@@ -55,7 +55,7 @@ after_add s a = cond (tautology (normal (sent_of a))) s (stored s a)
 
 -- an add that passes
 pub record Added {V : Type 0} (k : Kind V) (a : Accepted V) (s t : Sheet V) : Type 0 where
-  pub ranged : All (λ z. (1 ≤ sent_item z) × (sent_item z ≤ s.callers)) (sent_of a)
+  pub ranged : AllByRecursion (λ z. (1 ≤ sent_item z) × (sent_item z ≤ s.callers)) (sent_of a)
   pub after : t ≡ after_add s a
   pub softs : length t.weights ≤ 2000
   pub ceiling : k.within (total_of k (λ w. w) t.weights) ≡ true

@@ -1,6 +1,6 @@
 -- What a run of a rule means, from the sheet before it to the sheet after it. Assumes nothing.
 use Rattle.std.specs.Prelude.{◌≡◌, ℕ, ◌≤◌, true, false, List, ◌++◌, length}
-use Rattle.std.specs.List.{AllByRecursion as All}
+use Rattle.std.specs.List.{AllByRecursion}
 use Rattle.weight.specs.Kind.{Kind, total_of}
 use Rattle.sheet.specs.declared.buffers.Phase.TheVariants.{Working as at-work}
 use Rattle.sheet.specs.declared.clause.Tag.TheVariants.{Working}
@@ -18,18 +18,18 @@ use Rattle.meaning.specs.Unwinding.{reset, unwound}
 
 -- A working sheet holds together: what the check asks of the buffers, of the sheet that they stand for.
 pub record Holds {V : Type 0} (k : Kind V) (s : Sheet V) : Type 0 where
-  pub kinds : All (λ c. c.tag ≡ Working) s.clauses
-  pub valid : All Valid s.clauses
-  pub literals : All (λ c. All (Stands at-work (length s.row) s.row) c.lits) s.clauses
-  pub ranged : All (λ x. OrdinalOf (length s.weights) x.standing x.ordinal) s.row
+  pub kinds : AllByRecursion (λ c. c.tag ≡ Working) s.clauses
+  pub valid : AllByRecursion Valid s.clauses
+  pub literals : AllByRecursion (λ c. AllByRecursion (Stands at-work (length s.row) s.row) c.lits) s.clauses
+  pub ranged : AllByRecursion (λ x. OrdinalOf (length s.weights) x.standing x.ordinal) s.row
   pub apart : Distinct (label_ordinals s.row)
-  pub records : All ValidRecord s.stack
-  pub named : All (λ r. All (Literal (length s.row)) r.lits) s.stack
+  pub records : AllByRecursion ValidRecord s.stack
+  pub named : AllByRecursion (λ r. AllByRecursion (Literal (length s.row)) r.lits) s.stack
   pub ceiling : k.within (total_of k (λ w. w) s.weights) ≡ true
 
 -- the record names only live items
 abbrev pub NamesLive : List Item → Record → Type 0
-NamesLive row r = All (λ w. live_at row (item_of w) ≡ true) r.lits
+NamesLive row r = AllByRecursion (λ w. live_at row (item_of w) ≡ true) r.lits
 
 -- A run from s to t. Whatever keeps this counts as a rule.
 pub record Meaning {V : Type 0} (k : Kind V) (s t : Sheet V) : Type 0 where
@@ -44,7 +44,7 @@ pub record Meaning {V : Type 0} (k : Kind V) (s t : Sheet V) : Type 0 where
   -- old records remain, and new ones name only items live before
   pub news : List Record
   pub stack : t.stack ≡ s.stack ++ news
-  pub names : All (NamesLive s.row) news
+  pub names : AllByRecursion (NamesLive s.row) news
   -- every answer of t, with the new records unwound, is an answer of s that costs no more
   pub back : (v : Values) → Answer t v → Answer s (unwound news (reset t.row v)) × AtMost k (cost k s (unwound news (reset t.row v))) (cost k t v)
   -- every answer of s has an answer of t that costs no more

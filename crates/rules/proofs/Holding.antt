@@ -1,6 +1,6 @@
 -- Buffers of a working sheet hold together where they are laid out and the sheet that they stand for holds together. Assumes nothing.
 use Rattle.std.proofs.Common.{◌≡◌, ℕ, zero, suc, ◌≤◌, true, List, [], ◌∷◌, ◌++◌, map, length, take, sym, refl, ap, ◌∙◌, arith}
-use Rattle.std.specs.List.{AllByRecursion as All}
+use Rattle.std.specs.List.{AllByRecursion}
 use Rattle.std.proofs.ByRecursion.{All-weaker}
 use Rattle.std.proofs.lemmas.List.{get_or-take, length-map, length-take-le}
 use Rattle.std.proofs.lemmas.Bool.{false≢true}
@@ -30,7 +30,7 @@ is_working (Soft n) is = absurd (false≢true is)
 is_working Working is = refl
 
 -- they have no ordinals
-no_ordinals : (cs : List Clause) → All (λ c. c.tag ≡ Working) cs → soft_ordinals cs ≡ []
+no_ordinals : (cs : List Clause) → AllByRecursion (λ c. c.tag ≡ Working) cs → soft_ordinals cs ≡ []
 no_ordinals [] working = refl
 no_ordinals (c ∷ cs) working = ap (λ t. ordinal_of t ++ soft_ordinals cs) working.0 ∙ no_ordinals cs working.1
 

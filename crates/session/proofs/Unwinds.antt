@@ -1,7 +1,7 @@
 -- What an unwind finds in buffers that hold together, and what it leaves of the answer. Assumes nothing.
 use Rattle.std.proofs.Common.{◌≡◌, ℕ, true, eqb, List, map, length, take, is_ok, None, Ok, Err, Result, sym, refl, ap, ◌∙◌, subst, inl, inr, arith}
 use Rattle.std.specs.Option.{option_map}
-use Rattle.std.specs.List.{AllByRecursion as All}
+use Rattle.std.specs.List.{AllByRecursion}
 use Rattle.std.proofs.ByRecursion.{All-weaker}
 use Rattle.std.proofs.lemmas.List.{length-take-le, take_all}
 use Rattle.std.proofs.lemmas.Bool.{cases_Bool, cond-false, eqb-true, false≢true}
@@ -71,7 +71,7 @@ module _ {W : Type 0} (m : Ghosts W) (laws : Lawful m.kind) (b : Lent W) (togeth
     long = long ∙ sym row_long;
     fits = together.stack.fits.length;
     laid = together.stack.laid;
-    literals = subst (λ n. All (λ r. All (Literal n) r.lits) (used_records b)) (sym long) together.stack.literals;
+    literals = subst (λ n. AllByRecursion (λ r. AllByRecursion (Literal n) r.lits) (used_records b)) (sym long) together.stack.literals;
     weighed = subst (λ n. Weighed n (used_row b)) (sym (length-take-le b.counts.softs b.weights together.weights.fits)) together.row.ranged;
     sheet_within = λ bytes. held_row_cost_within m laws together (values_of bytes);
     paid_within = λ bytes. held_paid_cost_within m laws together (values_of bytes);

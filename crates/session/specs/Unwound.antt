@@ -1,7 +1,7 @@
 -- Unwinding an answer: when it refuses, in the order of the causes, and what it makes of the answer. Assumes nothing.
 use Rattle.std.specs.Prelude.{◌≡◌, ℕ, ◌≤◌, true, cond, List, length, take, Some, None, Ok, Err, Option, Result, ◌==◌}
 use Rattle.std.specs.Option.{option_map}
-use Rattle.std.specs.List.{AllByRecursion as All}
+use Rattle.std.specs.List.{AllByRecursion}
 use Rattle.weight.specs.declared.kind.Weight.{Ghosts}
 use Rattle.sheet.specs.declared.buffers.Phase.TheVariants.{Working}
 use Rattle.sheet.specs.declared.row.Item.{Item}
@@ -71,7 +71,7 @@ pub record Unwindable {W : Type 0} (m : Ghosts W) (answer : List ℕ) (row : Lis
   pub long : length answer ≡ length row
   pub fits : fill ≤ length stack
   pub laid : Stacked (take fill stack)
-  pub literals : All (λ r. All (Literal (length answer)) r.lits) (records (take fill stack))
+  pub literals : AllByRecursion (λ r. AllByRecursion (Literal (length answer)) r.lits) (records (take fill stack))
   pub weighed : Weighed (length weights) row
   -- no cost passes the ceiling
   pub sheet_within : (bytes : List ℕ) → m.kind.within (sheet_cost_in m row weights bytes) ≡ true

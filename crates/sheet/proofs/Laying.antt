@@ -1,11 +1,11 @@
 -- Words of clauses: reading back what was written, and words laid end to end. Assumes nothing.
 use Rattle.std.proofs.Common.{◌≡◌, ℕ, zero, suc, ◌+◌, ◌*◌, ◌/◌, ◌%◌, ◌<◌, ◌≤◌, List, [], ◌∷◌, ◌++◌, length, get_or, take, drop, sym, refl, ap, ◌∙◌, arith}
-use Rattle.std.specs.List.{AllByRecursion as All}
+use Rattle.std.specs.List.{AllByRecursion}
 use Rattle.std.proofs.lemmas.List.{append_assoc, append_cancel_left, append-nil, drop_at, get_or-append-add, get_or_append_left, length-append, length-drop, take_at}
 use Rattle.std.proofs.ByRecursion.{All-append}
 use Rattle.sheet.specs.Clauses.{Clause, Tag, Hard, Soft, Working, kind_of, ordinal_of, clause_words, encode, tag_of, first_clause, behind, clauses_n, clauses, Valid, Laid}
 
-all_right : {X : Type 0} (P : X → Type 0) (xs ys : List X) → All P (xs ++ ys) → All P ys
+all_right : {X : Type 0} (P : X → Type 0) (xs ys : List X) → AllByRecursion P (xs ++ ys) → AllByRecursion P ys
 all_right P [] ys all = all
 all_right P (x ∷ xs) ys all = all_right P xs ys all.1
 
@@ -94,14 +94,14 @@ module _ (c : Clause) (ws : List ℕ) (v : Valid c) where
   pub clauses_words : clauses (clause_words c ++ ws) ≡ c ∷ clauses ws
   clauses_words = clauses_cons header tail ∙ ap (λ d. d ∷ clauses (drop (behind header) tail)) first ∙ ap (λ xs. c ∷ clauses xs) rest
 
-clauses_written : (cs : List Clause) (ws : List ℕ) → All Valid cs → clauses (encode cs ++ ws) ≡ cs ++ clauses ws
+clauses_written : (cs : List Clause) (ws : List ℕ) → AllByRecursion Valid cs → clauses (encode cs ++ ws) ≡ cs ++ clauses ws
 clauses_written [] ws v = refl
 clauses_written (c ∷ cs) ws v =
     ap clauses (append_assoc (clause_words c) (encode cs) ws)
     ∙ clauses_words c (encode cs ++ ws) v.0
     ∙ ap (λ ds. c ∷ ds) (clauses_written cs ws v.1)
 
-pub clauses_encode : (cs : List Clause) → All Valid cs → clauses (encode cs) ≡ cs
+pub clauses_encode : (cs : List Clause) → AllByRecursion Valid cs → clauses (encode cs) ≡ cs
 clauses_encode cs v =
     ap clauses (sym (append-nil (encode cs))) ∙ clauses_written cs [] v ∙ ap (λ ds. cs ++ ds) clauses_nil ∙ append-nil cs
 
@@ -116,11 +116,11 @@ pub encode_laid : (ws : List ℕ) → Laid ws → encode (clauses ws) ≡ ws
 unfolding Laid
 encode_laid ws laid = laid.0
 
-pub valid_laid : (ws : List ℕ) → Laid ws → All Valid (clauses ws)
+pub valid_laid : (ws : List ℕ) → Laid ws → AllByRecursion Valid (clauses ws)
 unfolding Laid
 valid_laid ws laid = laid.1
 
-pub laid_encode : (cs : List Clause) → All Valid cs → Laid (encode cs)
+pub laid_encode : (cs : List Clause) → AllByRecursion Valid cs → Laid (encode cs)
 unfolding Laid
 laid_encode cs v =
     let read = clauses_encode cs v in
@@ -167,9 +167,9 @@ pub record Opened (ws : List ℕ) : Type 0 where
   pub others : List Clause
   pub words : ws ≡ clause_words first ++ encode others
   pub valid : Valid first
-  pub all : All Valid others
+  pub all : AllByRecursion Valid others
 
-opened_by : (ws : List ℕ) (cs : List Clause) → encode cs ≡ ws → All Valid cs → 0 < length ws → Opened ws
+opened_by : (ws : List ℕ) (cs : List Clause) → encode cs ≡ ws → AllByRecursion Valid cs → 0 < length ws → Opened ws
 opened_by ws [] is v some = absurd (omega (arith, ap length is))
 opened_by ws (c ∷ cs) is v some = record { first = c; others = cs; words = sym is; valid = v.0; all = v.1 }
 

@@ -2,7 +2,7 @@
 use Rattle.std.proofs.Common.{◌≡◌, ℕ, zero, suc, ◌+◌, ◌-◌, ◌*◌, ◌/◌, ◌%◌, ◌<◌, ◌≤◌, List, [], ◌∷◌, ◌++◌, reverse, length, get_or, take, drop, sym, refl, ap, ◌∙◌, subst, append_assoc, append-nil, arith, length-append}
 use mathlib.Core.List.{reverse-cons, reverse-append, reverse-reverse}
 use lib.ListN.{length-reverse}
-use Rattle.std.specs.List.{AllByRecursion as All}
+use Rattle.std.specs.List.{AllByRecursion}
 use Rattle.std.proofs.lemmas.List.{append_cancel_right, length-drop, take_at, drop_at, get_or_push}
 use Rattle.std.proofs.ByRecursion.{All-push, All-take, All-drop}
 use Rattle.sheet.specs.Records.{Record, record_words, encode_stack, newest, records, ValidRecord, Stacked}
@@ -51,7 +51,7 @@ encode_stack_append (r ∷ rs) ss =
 encode_stack_push : (rs : List Record) (r : Record) → encode_stack (rs ++ r ∷ []) ≡ encode_stack rs ++ record_words r
 encode_stack_push rs r = encode_stack_append rs (r ∷ []) ∙ ap (λ z. encode_stack rs ++ z) (append-nil (record_words r))
 
-records_behind : (xs : List ℕ) (rs : List Record) → All ValidRecord rs → records (xs ++ encode_stack rs) ≡ records xs ++ rs
+records_behind : (xs : List ℕ) (rs : List Record) → AllByRecursion ValidRecord rs → records (xs ++ encode_stack rs) ≡ records xs ++ rs
 records_behind xs [] v = ap records (append-nil xs) ∙ sym (append-nil (records xs))
 records_behind xs (r ∷ rs) v =
     ap records (sym (append_assoc xs (record_words r) (encode_stack rs)))
@@ -59,20 +59,20 @@ records_behind xs (r ∷ rs) v =
     ∙ ap (λ z. z ++ rs) (records_append xs r v.0.count.1)
     ∙ append_assoc (records xs) (r ∷ []) rs
 
-pub records_encode : (rs : List Record) → All ValidRecord rs → records (encode_stack rs) ≡ rs
+pub records_encode : (rs : List Record) → AllByRecursion ValidRecord rs → records (encode_stack rs) ≡ rs
 records_encode rs v = records_behind [] rs v ∙ ap (λ z. z ++ rs) records_nil
 
-pub stacked_encode : (rs : List Record) → All ValidRecord rs → Stacked (encode_stack rs)
+pub stacked_encode : (rs : List Record) → AllByRecursion ValidRecord rs → Stacked (encode_stack rs)
 unfolding Stacked
 stacked_encode rs v =
     let e = records_encode rs v in
-    (ap encode_stack e, subst (λ z. All ValidRecord z) (sym e) v)
+    (ap encode_stack e, subst (λ z. AllByRecursion ValidRecord z) (sym e) v)
 
 pub stacked_words : (ws : List ℕ) → Stacked ws → encode_stack (records ws) ≡ ws
 unfolding Stacked
 stacked_words ws s = s.0
 
-pub stacked_valid : (ws : List ℕ) → Stacked ws → All ValidRecord (records ws)
+pub stacked_valid : (ws : List ℕ) → Stacked ws → AllByRecursion ValidRecord (records ws)
 unfolding Stacked
 stacked_valid ws s = s.1
 
@@ -94,18 +94,18 @@ module _ (xs : List ℕ) (r : Record) where
 
   -- and back
   module _ (few : length r.lits < 4096) (s : Stacked (xs ++ record_words r)) where
-    all_last : All ValidRecord (records xs ++ r ∷ [])
-    all_last = subst (λ rs. All ValidRecord rs) (records_append xs r few) (stacked_valid (xs ++ record_words r) s)
+    all_last : AllByRecursion ValidRecord (records xs ++ r ∷ [])
+    all_last = subst (λ rs. AllByRecursion ValidRecord rs) (records_append xs r few) (stacked_valid (xs ++ record_words r) s)
 
     pub stacked_last : ValidRecord r
-    stacked_last = (subst (λ rs. All ValidRecord rs) (drop_at (records xs) (r ∷ []) (length (records xs)) refl) (All-drop ValidRecord (length (records xs)) (records xs ++ r ∷ []) all_last)).0
+    stacked_last = (subst (λ rs. AllByRecursion ValidRecord rs) (drop_at (records xs) (r ∷ []) (length (records xs)) refl) (All-drop ValidRecord (length (records xs)) (records xs ++ r ∷ []) all_last)).0
 
     pub stacked_front : Stacked xs
     unfolding Stacked
     stacked_front = (
       append_cancel_right (encode_stack (records xs)) xs (record_words r)
           (sym (encode_stack_push (records xs) r) ∙ ap encode_stack (sym (records_append xs r few)) ∙ stacked_words (xs ++ record_words r) s),
-      subst (λ rs. All ValidRecord rs) (take_at (records xs) (r ∷ []) (length (records xs)) refl) (All-take ValidRecord (length (records xs)) (records xs ++ r ∷ []) all_last),
+      subst (λ rs. AllByRecursion ValidRecord rs) (take_at (records xs) (r ∷ []) (length (records xs)) refl) (All-take ValidRecord (length (records xs)) (records xs ++ r ∷ []) all_last),
     )
 
 -- the last word counts no more literals than there are words in front of the witness
@@ -121,11 +121,11 @@ room_last xs r few =
     let read : get_or (front ++ trailer ∷ []) (length (front ++ trailer ∷ []) - 1) 0 ≡ trailer = get_or_push front trailer 0 (length (front ++ trailer ∷ []) - 1) (simp length-append (omega arith)) in
     rw split (omega arith)
 
-room_behind : (xs : List ℕ) (r : Record) (rs : List Record) → All ValidRecord (r ∷ rs) → Room (xs ++ encode_stack (r ∷ rs))
+room_behind : (xs : List ℕ) (r : Record) (rs : List Record) → AllByRecursion ValidRecord (r ∷ rs) → Room (xs ++ encode_stack (r ∷ rs))
 room_behind xs r [] v = subst (λ ws. Room (xs ++ ws)) (sym (append-nil (record_words r))) (room_last xs r v.0.count.1)
 room_behind xs r (q ∷ rs) v = subst (λ ws. Room ws) (append_assoc xs (record_words r) (encode_stack (q ∷ rs))) (room_behind (xs ++ record_words r) q rs v.1)
 
-room_all : (rs : List Record) → All ValidRecord rs → 0 < length (encode_stack rs) → Room (encode_stack rs)
+room_all : (rs : List Record) → AllByRecursion ValidRecord rs → 0 < length (encode_stack rs) → Room (encode_stack rs)
 room_all [] v some = absurd (omega arith)
 room_all (r ∷ rs) v some = room_behind [] r rs v
 

@@ -1,6 +1,6 @@
 -- A clause at its place in the words, one step of a cursor over clauses, and literals parted by their sign. Assumes nothing.
 use Rattle.std.specs.Prelude.{◌≡◌, ℕ, ◌+◌, ◌<◌, ◌≤◌, false, List, ◌∷◌, length, slice_index, slice_set}
-use Rattle.std.specs.List.{between, AllByRecursion as All}
+use Rattle.std.specs.List.{between, AllByRecursion}
 use Rattle.sheet.specs.declared.clause.Place.{Place}
 use Rattle.sheet.specs.Literals.{has, opposite}
 use Rattle.sheet.specs.Clauses.{Clause, Tag, Hard, Soft, Working, Valid, Laid, clauses, clause_words}
@@ -28,7 +28,7 @@ with_ordinal s at Working = s
 
 -- no item with both signs
 abbrev pub OneSign : List ℕ → Type 0
-OneSign ws = All (λ w. has (opposite w) ws ≡ false) ws
+OneSign ws = AllByRecursion (λ w. has (opposite w) ws ≡ false) ws
 
 -- The literals up to `split` are plain, those from there on denied.
 pub record Parted (ws : List ℕ) (split : ℕ) : Type 0 where

@@ -1,6 +1,6 @@
 -- Clauses, and how they lie in words: a header (4 bits of kind, 12 bits of count), the literals, and a soft's ordinal, which the count leaves out. Assumes nothing.
 use Rattle.std.specs.Prelude.{◌≡◌, ℕ, zero, suc, ◌+◌, ◌*◌, ◌/◌, ◌%◌, ◌<◌, cond, List, [], ◌∷◌, ◌++◌, length, take, drop, ◌==◌, slice_index}
-use Rattle.std.specs.List.{AllByRecursion as All}
+use Rattle.std.specs.List.{AllByRecursion}
 use Rattle.sheet.specs.Literals.{Normal}
 pub use Rattle.sheet.specs.declared.clause.Tag.{Tag}
 pub use Rattle.sheet.specs.declared.clause.Tag.TheVariants.{Hard, Soft, Working}
@@ -56,7 +56,7 @@ pub record Valid (c : Clause) : Type 0 where
 
 -- The words are exactly those of clauses that follow the layout.
 unfoldable pub Laid : List ℕ → Type 0
-Laid ws = (encode (clauses ws) ≡ ws) × All Valid (clauses ws)
+Laid ws = (encode (clauses ws) ≡ ws) × AllByRecursion Valid (clauses ws)
 
 -- the ordinals of the soft clauses, in sheet order
 abbrev pub soft_ordinals : List Clause → List ℕ

@@ -1,6 +1,6 @@
 -- Records of the reconstruction stack, and how they lie in words: the literals, the witness, and a trailer (4 bits of code, 12 bits of count). Assumes nothing.
 use Rattle.std.specs.Prelude.{◌≡◌, ℕ, zero, suc, ◌+◌, ◌*◌, ◌/◌, ◌%◌, ◌<◌, ◌≤◌, true, List, [], ◌∷◌, ◌++◌, reverse, length, take, drop}
-use Rattle.std.specs.List.{AllByRecursion as All}
+use Rattle.std.specs.List.{AllByRecursion}
 use Rattle.sheet.specs.Literals.{Normal, has}
 
 pub record Record : Type 0 where
@@ -35,4 +35,4 @@ pub record ValidRecord (r : Record) : Type 0 where
 
 -- The words are exactly those of records that follow the layout.
 unfoldable pub Stacked : List ℕ → Type 0
-Stacked ws = (encode_stack (records ws) ≡ ws) × All ValidRecord (records ws)
+Stacked ws = (encode_stack (records ws) ≡ ws) × AllByRecursion ValidRecord (records ws)

@@ -1,6 +1,6 @@
 -- When lent buffers hold together, part by part in the order of the check. Assumes nothing.
 use Rattle.std.specs.Prelude.{◌≡◌, ℕ, ◌<◌, ◌≤◌, Bool, true, false, List, [], ◌∷◌, ◌++◌, length, take, Some, None, Option, ◌≢◌}
-use Rattle.std.specs.List.{AllByRecursion as All}
+use Rattle.std.specs.List.{AllByRecursion}
 use Rattle.weight.specs.Total.{total_in}
 use Rattle.weight.specs.declared.kind.Weight.{Ghosts}
 use Rattle.sheet.specs.declared.buffers.Phase.{Phase}
@@ -35,14 +35,14 @@ pub record Stands (phase : Phase) (n : ℕ) (row : List Item) (w : ℕ) : Type 0
 -- no number is there twice
 abbrev pub Distinct : List ℕ → Type 0
 Distinct [] = Unit {0}
-Distinct (x ∷ xs) = All (λ y. x ≢ y) xs × Distinct xs
+Distinct (x ∷ xs) = AllByRecursion (λ y. x ≢ y) xs × Distinct xs
 
 pub record SheetHolds {W : Type 0} (phase : Phase) (b : Lent W) : Type 0 where
   pub fits : Fits b.marks.sheet b.sheet
   pub laid : Laid (take b.marks.sheet b.sheet)
-  pub kinds : All (λ c. of_phase phase c.tag ≡ true) (used_clauses b)
-  pub literals : All (λ c. All (Stands phase b.counts.items b.row) c.lits) (used_clauses b)
-  pub ranged : All (λ n. n < b.counts.softs) (soft_ordinals (used_clauses b))
+  pub kinds : AllByRecursion (λ c. of_phase phase c.tag ≡ true) (used_clauses b)
+  pub literals : AllByRecursion (λ c. AllByRecursion (Stands phase b.counts.items b.row) c.lits) (used_clauses b)
+  pub ranged : AllByRecursion (λ n. n < b.counts.softs) (soft_ordinals (used_clauses b))
   pub apart : Distinct (soft_ordinals (used_clauses b))
 
 -- a label's ordinal is that of a soft, any other item's is 0
@@ -55,7 +55,7 @@ OrdinalOf softs Forced n = n < softs
 
 pub record RowHolds {W : Type 0} (b : Lent W) : Type 0 where
   pub fits : b.counts.items ≤ length b.row
-  pub ranged : All (λ x. OrdinalOf b.counts.softs x.standing x.ordinal) (used_row b)
+  pub ranged : AllByRecursion (λ x. OrdinalOf b.counts.softs x.standing x.ordinal) (used_row b)
   -- no two labels, and no label and gathered soft
   pub apart : Distinct (soft_ordinals (used_clauses b) ++ label_ordinals (used_row b))
 
@@ -66,7 +66,7 @@ Empty Working mark = Unit {0}
 pub record StackHolds {W : Type 0} (phase : Phase) (b : Lent W) : Type 0 where
   pub fits : Fits b.marks.stack b.stack
   pub laid : Stacked (take b.marks.stack b.stack)
-  pub literals : All (λ r. All (Literal b.counts.items) r.lits) (used_records b)
+  pub literals : AllByRecursion (λ r. AllByRecursion (Literal b.counts.items) r.lits) (used_records b)
   -- nothing is recorded before the close
   pub empty : Empty phase b.marks.stack
 

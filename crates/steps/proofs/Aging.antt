@@ -1,6 +1,6 @@
 -- Rows in which items only retire. Assumes nothing.
 use Rattle.std.proofs.Common.{◌≡◌, ℕ, zero, suc, ◌-◌, ◌<◌, ◌≤◌, Bool, true, false, ◌&&◌, List, length, sym, refl, ap, ◌∙◌, subst, inl, inr, arith}
-use Rattle.std.specs.List.{AllByRecursion as All}
+use Rattle.std.specs.List.{AllByRecursion}
 use Rattle.std.proofs.ByRecursion.{All-get_or, All-from_get_or}
 use Rattle.std.proofs.lemmas.List.{length-set}
 use Rattle.std.proofs.lemmas.Bool.{both_ways, cases_eq}
@@ -88,7 +88,7 @@ from_label n o Covered is = is
 from_label n o Forced is = is
 
 module _ {before after : List Item} (aged : Aged before after) where
-  pub aged_ranged : (n : ℕ) → All (λ x. OrdinalOf n x.standing x.ordinal) before → All (λ x. OrdinalOf n x.standing x.ordinal) after
+  pub aged_ranged : (n : ℕ) → AllByRecursion (λ x. OrdinalOf n x.standing x.ordinal) before → AllByRecursion (λ x. OrdinalOf n x.standing x.ordinal) after
   aged_ranged n ranged = All-from_get_or _ after absent (λ j inside.
       let long = aged.items in
       let was = by_label n _ _ (All-get_or _ before j absent (omega arith) ranged) in

@@ -1,6 +1,6 @@
 -- What keeps a sheet together: clauses that hold, parts of them, and records of them. Assumes nothing.
 use Rattle.std.proofs.Common.{◌≡◌, ℕ, ◌<◌, ◌≤◌, Bool, true, not, List, [], ◌∷◌, ◌++◌, length, filter, refl, arith}
-use Rattle.std.specs.List.{AllByRecursion as All}
+use Rattle.std.specs.List.{AllByRecursion}
 use Rattle.std.proofs.ByRecursion.{All-append, all_kept_by}
 use Rattle.std.proofs.lemmas.List.Filters.{length-filter_both}
 use Rattle.std.proofs.lemmas.Bool.{cond_both}
@@ -24,7 +24,7 @@ use Rattle.steps.proofs.Aging.{Aged, aged_ranged, aged_apart, aged_retired, reti
 pub record ClauseHolds (row : List Item) (c : Clause) : Type 0 where
   pub working : c.tag ≡ Working
   pub valid : Valid c
-  pub stands : All (Stands at-work (length row) row) c.lits
+  pub stands : AllByRecursion (Stands at-work (length row) row) c.lits
 
 -- Clauses of a sheet that holds together.
 
@@ -45,10 +45,10 @@ module _ {row : List Item} {c : Clause} (holds : ClauseHolds row c) where
   pub live_in : (w : ℕ) → In w c.lits → live_at row (item_of w) ≡ true
   live_in w among = let stands = all_in _ w c.lits holds.stands among in stands.live stands.literal.high
 
-  pub names_live : All (λ w. live_at row (item_of w) ≡ true) c.lits
+  pub names_live : AllByRecursion (λ w. live_at row (item_of w) ≡ true) c.lits
   names_live = all_from_in _ c.lits live_in
 
-  pub named_in : All (Literal (length row)) c.lits
+  pub named_in : AllByRecursion (Literal (length row)) c.lits
   named_in = all_from_in _ c.lits literal_in
 
   pub one_sign_in : (w : ℕ) → In w c.lits → In (opposite w) c.lits → ⊥
@@ -121,7 +121,7 @@ pub record Grown {V : Type 0} (s t : Sheet V) (news : List Record) : Type 0 wher
   pub clauses : (c : Clause) → In c t.clauses → ClauseHolds t.row c
   pub stack : t.stack ≡ s.stack ++ news
   pub valid : (r : Record) → In r news → ValidRecord r
-  pub named : (r : Record) → In r news → All (Literal (length s.row)) r.lits
+  pub named : (r : Record) → In r news → AllByRecursion (Literal (length s.row)) r.lits
 
 pub grown_holds : {V : Type 0} {k : Kind V} {s t : Sheet V} {news : List Record} → Holds k s → Grown s t news → Holds k t
 grown_holds {s = s} {t = t} {news = news} holds grown = record {

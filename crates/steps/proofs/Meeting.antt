@@ -1,6 +1,6 @@
 -- Clauses that are met, by their literals, and lists of clauses, by their members. Assumes nothing.
 use Rattle.std.proofs.Common.{◌≡◌, ℕ, Bool, true, false, List, [], ◌∷◌, ◌++◌, sym, refl, ap, ◌∙◌, inl, inr, ⊎_elim}
-use Rattle.std.specs.List.{AllByRecursion as All}
+use Rattle.std.specs.List.{AllByRecursion}
 use Rattle.std.proofs.lemmas.Bool.{both_ways, cases_Bool, and_parts, and_from, or_cases, or_left, or_right}
 use Rattle.sheet.specs.declared.clause.Tag.{Tag}
 use Rattle.sheet.specs.declared.clause.Tag.TheVariants.{Hard, Soft, Working}
@@ -43,7 +43,7 @@ met_inside v xs ys inside is = met_carried v v xs ys is (λ w among so. (inside 
 abbrev pub MeetsEach : Values → List Clause → Type 0
 MeetsEach v cs = (c : Clause) → In c cs → met v c.lits ≡ true
 
-pub each_met : (v : Values) (cs : List Clause) → All (λ c. c.tag ≡ Working) cs → meets_all v cs ≡ true → MeetsEach v cs
+pub each_met : (v : Values) (cs : List Clause) → AllByRecursion (λ c. c.tag ≡ Working) cs → meets_all v cs ≡ true → MeetsEach v cs
 each_met v [] working meets c among = absurd among
 each_met v (d ∷ ds) working meets c among =
     let parts = and_parts (kept_as d.tag (met v d.lits)) (meets_all v ds) meets in

@@ -1,6 +1,6 @@
 -- Members of lists, and the tests that find them. Assumes nothing.
 use Rattle.std.proofs.Common.{◌≡◌, ℕ, Bool, true, false, eqb, ◌⊎◌, List, [], ◌∷◌, ◌++◌, map, filter, sym, refl, ap, ◌∙◌, subst, inl, inr, ⊎_elim}
-use Rattle.std.specs.List.{flat_map, AllByRecursion as All}
+use Rattle.std.specs.List.{flat_map, AllByRecursion}
 use Rattle.std.proofs.lemmas.Bool.{both_ways, cases_Bool, cond_both, and_parts, or_cases, or_left, or_right, eqb-true, eqb-false, eq-eqb, ne_eqb, not-true, not_from_false}
 use Rattle.sheet.specs.Literals.{has}
 use Rattle.steps.specs.Places.{some, every}
@@ -44,7 +44,7 @@ module _ {X : Type 0} where
   -- What holds of each.
 
   module _ (P : X → Type 0) where
-    pub all_in : (x : X) (xs : List X) → All P xs → In x xs → P x
+    pub all_in : (x : X) (xs : List X) → AllByRecursion P xs → In x xs → P x
     all_in x [] all among = absurd among
     all_in x (y ∷ xs) all (inl is) = subst P is all.0
     all_in x (y ∷ xs) all (inr among) = all_in x xs all.1 among
@@ -53,7 +53,7 @@ module _ {X : Type 0} where
     pub of_one : (y : X) → P y → (x : X) → In x (y ∷ []) → P x
     of_one y is x among = all_in x (y ∷ []) (is, tt) among
 
-    pub all_from_in : (xs : List X) → ((x : X) → In x xs → P x) → All P xs
+    pub all_from_in : (xs : List X) → ((x : X) → In x xs → P x) → AllByRecursion P xs
     all_from_in [] each = tt
     all_from_in (x ∷ xs) each = (each x (inl refl), all_from_in xs (λ y among. each y (inr among)))
 

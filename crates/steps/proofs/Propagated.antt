@@ -1,6 +1,6 @@
 -- Unit propagation keeps the meaning: the literal of a unit clause is true in every answer. Assumes nothing.
 use Rattle.std.proofs.Common.{◌≡◌, ℕ, ◌<◌, Bool, true, false, List, [], ◌∷◌, length, Some, filter, refl, ◌∙◌, subst, inl, inr, arith}
-use Rattle.std.specs.List.{AllByRecursion as All}
+use Rattle.std.specs.List.{AllByRecursion}
 use Rattle.std.proofs.lemmas.Bool.{both_ways, cases_Bool, cond_both, or_cases, not-true, not_from_true, not_from_false}
 use Rattle.weight.specs.Kind.{Kind, Lawful}
 use Rattle.weight.proofs.Orders.{order_refl}
@@ -130,7 +130,7 @@ module _ {V : Type 0} {k : Kind V} (laws : Lawful k) {s : Sheet V} (holds : Hold
         (retired_holds s.row (item_of w) settled (lacking (opposite w) from.0) live (settled_label _) (left_apart from.0 from.1 from.2) (kept_holds s.row (is_other (opposite w)) from.0 (clause_holds holds from.0 from.1)));
     stack = refl;
     valid = of_one ValidRecord (unit_record w) (rw unit at (record_valid stands 3 w (omega arith, omega arith) in_unit));
-    named = of_one (λ r. All (Literal (length s.row)) r.lits) (unit_record w) (rw unit at (named_in stands));
+    named = of_one (λ r. AllByRecursion (Literal (length s.row)) r.lits) (unit_record w) (rw unit at (named_in stands));
   }
 
   unit_forth : (v : Values) → Answer s v → Answer after v

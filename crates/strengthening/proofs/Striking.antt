@@ -1,6 +1,6 @@
 -- A literal taken out of its clause in the words: its header counts one less, and the words behind the literal move down. Assumes nothing.
 use Rattle.std.proofs.Common.{◌≡◌, ℕ, suc, ◌+◌, ◌-◌, ◌*◌, ◌<◌, ◌≤◌, List, [], ◌∷◌, ◌++◌, length, get_or, take, drop, set, sym, refl, ap, ◌∙◌, subst, ap₂, arith}
-use Rattle.std.specs.List.{between, AllByRecursion as All}
+use Rattle.std.specs.List.{between, AllByRecursion}
 use Rattle.std.proofs.lemmas.List.Edits.{length-between}
 use Rattle.std.proofs.lemmas.List.{append_assoc, drop-set, drop-set-lt, length-append, take-set}
 use Rattle.std.proofs.lemmas.Bool.{cond-true, cond-false, eq-eqb, ne_eqb, not_from_true, not_from_false}
@@ -15,11 +15,11 @@ use Rattle.steps.proofs.Holding.{kept_valid}
 
 -- Ascending words without one of them.
 
-above : (x w : ℕ) (xs ys : List ℕ) → All (λ y. x < y) (xs ++ w ∷ ys) → x < w
+above : (x w : ℕ) (xs ys : List ℕ) → AllByRecursion (λ y. x < y) (xs ++ w ∷ ys) → x < w
 above x w [] ys all = all.0
 above x w (y ∷ xs) ys all = above x w xs ys all.1
 
-but_above : (w : ℕ) (ys : List ℕ) → All (λ y. w < y) ys → but w ys ≡ ys
+but_above : (w : ℕ) (ys : List ℕ) → AllByRecursion (λ y. w < y) ys → but w ys ≡ ys
 but_above w [] all = refl
 but_above w (y ∷ ys) all =
     let less = all.0 in

@@ -1,6 +1,6 @@
 -- A merge that looks whether ascending words are among others. Assumes nothing.
 use Rattle.std.proofs.Common.{◌≡◌, ℕ, zero, suc, ◌+◌, ◌<◌, ◌≤◌, false, ◌&&◌, List, [], ◌∷◌, length, get_or, drop, sym, refl, ap, subst, arith}
-use Rattle.std.specs.List.{AllByRecursion as All}
+use Rattle.std.specs.List.{AllByRecursion}
 use Rattle.std.proofs.lemmas.List.{drop_more, drop_all}
 use Rattle.std.proofs.ByRecursion.{All-weaker}
 use Rattle.std.proofs.lemmas.Bool.{ne_eqb, eq-eqb}
@@ -14,12 +14,12 @@ rising_drop (suc n) [] up = tt
 rising_drop (suc n) (w ∷ ws) up = rising_drop n ws up.1
 
 -- a word below all others is none of them
-has_below : (w : ℕ) (ws : List ℕ) → All (λ x. w < x) ws → has w ws ≡ false
+has_below : (w : ℕ) (ws : List ℕ) → AllByRecursion (λ x. w < x) ws → has w ws ≡ false
 has_below w [] above = refl
 has_below w (x ∷ xs) above = let rest = has_below w xs above.1 in let less = above.0 in grind (arith, nat_tests)
 
 -- and none of them is missed without it
-inside_skip : (y : ℕ) (xs ys : List ℕ) → All (λ x. y < x) xs → inside xs (y ∷ ys) ≡ inside xs ys
+inside_skip : (y : ℕ) (xs ys : List ℕ) → AllByRecursion (λ x. y < x) xs → inside xs (y ∷ ys) ≡ inside xs ys
 inside_skip y [] ys above = refl
 inside_skip y (x ∷ xs) ys above =
     let rest = inside_skip y xs ys above.1 in
@@ -57,4 +57,4 @@ module _ (xs ys : List ℕ) (i j : ℕ) (some : i < length xs) where
         let here = drop_more xs i 0 some in
         let rest = rw here at (rising_drop i xs up) in
         let found = eq-eqb (get_or ys j 0) (get_or xs i 0) (sym same) in
-        rw (here, drop_more ys j 0 more, found) (inside_skip (get_or ys j 0) (drop (i + 1) xs) (drop (j + 1) ys) (subst (λ z. All (λ w. z < w) (drop (i + 1) xs)) same rest.0))
+        rw (here, drop_more ys j 0 more, found) (inside_skip (get_or ys j 0) (drop (i + 1) xs) (drop (j + 1) ys) (subst (λ z. AllByRecursion (λ w. z < w) (drop (i + 1) xs)) same rest.0))

@@ -1,6 +1,6 @@
 -- What a bill comes to is within the ceiling where the total of all weights is. Assumes nothing.
 use Rattle.std.proofs.Common.{◌≡◌, ℕ, suc, ◌<◌, Bool, true, false, cond, List, [], ◌∷◌, ◌++◌, map, length, sym, refl, ap, ◌∙◌, subst, inl, inr}
-use Rattle.std.specs.List.{AllByRecursion as All}
+use Rattle.std.specs.List.{AllByRecursion}
 use Rattle.std.proofs.lemmas.List.{length-map, length-take-le}
 use Rattle.std.proofs.lemmas.Bool.{cases_Bool, both_ways, cond-true, cond-false}
 use Rattle.weight.specs.Kind.{Kind, Lawful, total_of}
@@ -19,11 +19,11 @@ use Rattle.unwinding.specs.Charges.{Weighed, billed, charged}
 use Rattle.unwinding.proofs.Billing.{charged_label, label_ordinal, row_cost_billed, paid_cost_billed}
 use Rattle.unwinding.proofs.Parts.{Part, part_within, part_zero, part_self, part_trans, part_sum, distinct_part}
 
-labels_ranged : (softs : ℕ) (row : List Item) → Weighed softs row → All (λ n. n < softs) (label_ordinals row)
+labels_ranged : (softs : ℕ) (row : List Item) → Weighed softs row → AllByRecursion (λ n. n < softs) (label_ordinals row)
 labels_ranged softs [] fits = tt
 labels_ranged softs (x ∷ xs) fits = elim (cases_Bool (is_label x.standing)) [
-  | inl is ↦ subst (λ ns. All (λ n. n < softs) ns) (sym (cond-true _ _ _ is)) (label_ordinal softs x.standing x.ordinal fits.0 is, labels_ranged softs xs fits.1)
-  | inr other ↦ subst (λ ns. All (λ n. n < softs) ns) (sym (cond-false _ _ _ other)) (labels_ranged softs xs fits.1)
+  | inl is ↦ subst (λ ns. AllByRecursion (λ n. n < softs) ns) (sym (cond-true _ _ _ is)) (label_ordinal softs x.standing x.ordinal fits.0 is, labels_ranged softs xs fits.1)
+  | inr other ↦ subst (λ ns. AllByRecursion (λ n. n < softs) ns) (sym (cond-false _ _ _ other)) (labels_ranged softs xs fits.1)
 ]
 
 distinct_behind : (ns ms : List ℕ) → Distinct (ns ++ ms) → Distinct ms
@@ -56,10 +56,10 @@ module _ {V : Type 0} {k : Kind V} (laws : Lawful k) where
   total_map value (w ∷ ws) = ap (k.sum (value w)) (total_map value ws)
 
   -- labels of different softs, each with a weight, and a total within the ceiling
-  module _ {W : Type 0} (value : W → V) (ws : List W) (row : List Item) (apart : Distinct (label_ordinals row)) (ranged : All (λ n. n < length ws) (label_ordinals row)) (fits : k.within (total_of k value ws) ≡ true) (v : Values) where
+  module _ {W : Type 0} (value : W → V) (ws : List W) (row : List Item) (apart : Distinct (label_ordinals row)) (ranged : AllByRecursion (λ n. n < length ws) (label_ordinals row)) (fits : k.within (total_of k value ws) ≡ true) (v : Values) where
     billed_within : (bill : Bill) → k.within (billed k bill (map value ws) v 1 row) ≡ true
     billed_within bill =
-        let inside = subst (λ n. All (λ m. m < n) (label_ordinals row)) (sym (length-map ws value)) ranged in
+        let inside = subst (λ n. AllByRecursion (λ m. m < n) (label_ordinals row)) (sym (length-map ws value)) ranged in
         part_within laws (part_trans laws (charged_part bill (map value ws) v 1 row) (distinct_part laws (label_ordinals row) (map value ws) apart inside)) (ap k.within (total_map value ws) ∙ fits)
 
     pub row_cost_within : k.within (row_cost k (map value ws) v 1 row) ≡ true
@@ -73,8 +73,8 @@ module _ {W : Type 0} (m : Ghosts W) (laws : Lawful m.kind) {phase : Phase} {b :
   apart : Distinct (label_ordinals (used_row b))
   apart = distinct_behind (soft_ordinals (used_clauses b)) (label_ordinals (used_row b)) together.row.apart
 
-  ranged : All (λ n. n < length (used_weights b)) (label_ordinals (used_row b))
-  ranged = subst (λ n. All (λ i. i < n) (label_ordinals (used_row b))) (sym (length-take-le b.counts.softs b.weights together.weights.fits)) (labels_ranged b.counts.softs (used_row b) together.row.ranged)
+  ranged : AllByRecursion (λ n. n < length (used_weights b)) (label_ordinals (used_row b))
+  ranged = subst (λ n. AllByRecursion (λ i. i < n) (label_ordinals (used_row b))) (sym (length-take-le b.counts.softs b.weights together.weights.fits)) (labels_ranged b.counts.softs (used_row b) together.row.ranged)
 
   pub held_row_cost_within : (v : Values) → m.kind.within (row_cost m.kind (map m.value (used_weights b)) v 1 (used_row b)) ≡ true
   held_row_cost_within = row_cost_within laws m.value (used_weights b) (used_row b) apart ranged together.weights.ceiling

@@ -1,6 +1,6 @@
 -- Records followed from the newest to the oldest. Assumes nothing.
 use Rattle.std.proofs.Common.{◌≡◌, ℕ, true, eqb, List, [], ◌∷◌, ◌++◌, take, refl, ap, ◌∙◌, subst, inl, inr}
-use Rattle.std.specs.List.{AllByRecursion as All}
+use Rattle.std.specs.List.{AllByRecursion}
 use Rattle.std.proofs.lemmas.Bool.{or_cases, eqb-true, false≢true}
 use Rattle.weight.specs.declared.kind.Weight.{Ghosts}
 use Rattle.sheet.specs.declared.«record».Filed.{Filed}
@@ -13,14 +13,14 @@ use Rattle.meaning.specs.Answers.{Values}
 use Rattle.meaning.specs.Unwinding.{mended, plan_of, unwound}
 use Rattle.unwinding.specs.Bytes.{row_and_stack}
 
-has_all : (P : ℕ → Type 0) (w : ℕ) (ws : List ℕ) → has w ws ≡ true → All P ws → P w
+has_all : (P : ℕ → Type 0) (w : ℕ) (ws : List ℕ) → has w ws ≡ true → AllByRecursion P ws → P w
 has_all P w [] there h = absurd (false≢true there)
 has_all P w (x ∷ ws) there h = elim (or_cases (eqb x w) (has w ws) there) [
   | inl e ↦ subst P (eqb-true x w e) h.0
   | inr e ↦ has_all P w ws e h.1
 ]
 
-all_back : {X : Type 0} (P : X → Type 0) (xs : List X) (x : X) → All P (xs ++ x ∷ []) → All P xs × P x
+all_back : {X : Type 0} (P : X → Type 0) (xs : List X) (x : X) → AllByRecursion P (xs ++ x ∷ []) → AllByRecursion P xs × P x
 all_back P [] x h = (tt, h.0)
 all_back P (y ∷ xs) x h = let p = all_back P xs x h.1 in ((h.0, p.0), p.1)
 
@@ -36,11 +36,11 @@ module _ {s : List ℕ} {end : ℕ} {p : Filed} (here : Newest s end p) where
   unwound_newest v = ap (λ rs. unwound rs v) here.last ∙ unwound_push (records (take p.from s)) (filed s p) v
 
   -- literals that name one of n items
-  module _ (n : ℕ) (all : All (λ r. All (Literal n) r.lits) (records (take end s))) where
-    both : All (λ r. All (Literal n) r.lits) (records (take p.from s)) × All (Literal n) (filed s p).lits
-    both = all_back (λ r. All (Literal n) r.lits) (records (take p.from s)) (filed s p) (subst (λ rs. All (λ r. All (Literal n) r.lits) rs) here.last all)
+  module _ (n : ℕ) (all : AllByRecursion (λ r. AllByRecursion (Literal n) r.lits) (records (take end s))) where
+    both : AllByRecursion (λ r. AllByRecursion (Literal n) r.lits) (records (take p.from s)) × AllByRecursion (Literal n) (filed s p).lits
+    both = all_back (λ r. AllByRecursion (Literal n) r.lits) (records (take p.from s)) (filed s p) (subst (λ rs. AllByRecursion (λ r. AllByRecursion (Literal n) r.lits) rs) here.last all)
 
-    pub older_literals : All (λ r. All (Literal n) r.lits) (records (take p.from s))
+    pub older_literals : AllByRecursion (λ r. AllByRecursion (Literal n) r.lits) (records (take p.from s))
     older_literals = both.0
 
     pub witness_literal : Literal n p.witness

@@ -1,6 +1,6 @@
 -- Parts of a sum, by the laws of a kind of weight. Assumes nothing.
 use Rattle.std.proofs.Common.{◌≡◌, ℕ, zero, suc, ◌<◌, true, List, [], ◌∷◌, length, set, sym, refl, ap, ◌∙◌, subst, arith}
-use Rattle.std.specs.List.{AllByRecursion as All}
+use Rattle.std.specs.List.{AllByRecursion}
 use Rattle.std.proofs.lemmas.List.{length-set, get_or-set_other}
 use Rattle.std.proofs.ByRecursion.{All-weaker}
 use Rattle.weight.specs.Kind.{Kind, Lawful, total_of}
@@ -44,15 +44,15 @@ module _ {V : Type 0} {k : Kind V} (laws : Lawful k) where
       let rest = total_of k (λ x. x) (set xs n k.zero) in
       sym (laws.sum_assoc w x rest) ∙ ap (λ u. k.sum u rest) (laws.sum_comm w x) ∙ laws.sum_assoc x w rest ∙ ap (k.sum x) (total_without xs n (omega arith))
 
-  total_same : (f g : ℕ → V) (ns : List ℕ) → All (λ n. f n ≡ g n) ns → total_of k f ns ≡ total_of k g ns
+  total_same : (f g : ℕ → V) (ns : List ℕ) → AllByRecursion (λ n. f n ≡ g n) ns → total_of k f ns ≡ total_of k g ns
   total_same f g [] h = refl
   total_same f g (n ∷ ns) h = ap (λ u. k.sum u (total_of k f ns)) h.0 ∙ ap (k.sum (g n)) (total_same f g ns h.1)
 
   -- distinct places pick a part of the total
-  pub distinct_part : (ns : List ℕ) (xs : List V) → Distinct ns → All (λ n. n < length xs) ns → Part k (total_of k (weight_of k xs) ns) (total_of k (λ x. x) xs)
+  pub distinct_part : (ns : List ℕ) (xs : List V) → Distinct ns → AllByRecursion (λ n. n < length xs) ns → Part k (total_of k (weight_of k xs) ns) (total_of k (λ x. x) xs)
   distinct_part [] xs apart inside = part_zero (total_of k (λ x. x) xs)
   distinct_part (n ∷ ns) xs apart inside =
       let others : List V = set xs n k.zero in
-      let picked = distinct_part ns others apart.1 (subst (λ m. All (λ j. j < m) ns) (sym (length-set xs n k.zero)) inside.1) in
+      let picked = distinct_part ns others apart.1 (subst (λ m. AllByRecursion (λ j. j < m) ns) (sym (length-set xs n k.zero)) inside.1) in
       let same = total_same (weight_of k others) (weight_of k xs) ns (All-weaker _ _ (λ j other. get_or-set_other xs n j k.zero k.zero (λ e. other (sym e))) ns apart.0) in
       subst (Part k _) (total_without xs n inside.0) (part_sum (part_self (weight_of k xs n)) (subst (λ x. Part k x (total_of k (λ x. x) others)) same picked))

@@ -1,6 +1,6 @@
 -- A search for the first that passes a test. Assumes nothing.
 use Rattle.std.proofs.Common.{◌≡◌, ℕ, ◌+◌, ◌<◌, ◌≤◌, Bool, true, false, ltb, List, [], ◌∷◌, length, get_or, drop, Some, None, sym, refl, ◌∙◌, inl, inr, arith}
-use Rattle.std.specs.List.{AllByRecursion as All}
+use Rattle.std.specs.List.{AllByRecursion}
 use Rattle.std.proofs.lemmas.List.{at_drop_more, at_drop_all}
 use Rattle.std.proofs.ByRecursion.{All-weaker}
 use Rattle.std.proofs.lemmas.Bool.{cases_Bool, cond-true, cond-false, ltb-false}
@@ -27,14 +27,14 @@ module _ {X : Type 0} (test : X → Bool) where
     first_none end = at_drop_all (first_from n test) xs i end
 
   -- none is found exactly where all fail
-  pub all_from_none : (n : ℕ) (xs : List X) → first_from n test xs ≡ None → All (λ x. test x ≡ false) xs
+  pub all_from_none : (n : ℕ) (xs : List X) → first_from n test xs ≡ None → AllByRecursion (λ x. test x ≡ false) xs
   all_from_none n [] found = tt
   all_from_none n (x ∷ xs) found = elim (cases_Bool (test x)) [
     | inl passes ↦ let never : Some n ≡ None = sym (first_here n x xs passes) ∙ found in absurd (grind arith)
     | inr fails ↦ (fails, all_from_none (n + 1) xs (sym (first_behind n x xs fails) ∙ found))
   ]
 
-  pub none_from_all : (n : ℕ) (xs : List X) → All (λ x. test x ≡ false) xs → first_from n test xs ≡ None
+  pub none_from_all : (n : ℕ) (xs : List X) → AllByRecursion (λ x. test x ≡ false) xs → first_from n test xs ≡ None
   none_from_all n [] fail = refl
   none_from_all n (x ∷ xs) fail = first_behind n x xs fail.0 ∙ none_from_all (n + 1) xs fail.1
 

@@ -1,6 +1,6 @@
 -- Answers as bytes, one for each item, and searches that answer a number from 0. Assumes nothing.
 use Rattle.std.specs.Prelude.{ℕ, zero, suc, ◌+◌, ◌≤◌, Bool, false, cond, not, List, [], ◌∷◌, Some, None, Option, ◌==◌, nat_lt, slice_index}
-use Rattle.std.specs.List.{AllByRecursion as All}
+use Rattle.std.specs.List.{AllByRecursion}
 use Rattle.sheet.specs.Clauses.{Clause}
 use Rattle.sheet.specs.Records.{Record}
 use Rattle.sheet.specs.declared.row.Item.{Item}
@@ -14,7 +14,7 @@ values_of bs (suc i) = slice_index bs i == 1
 
 -- each is 0 or 1
 abbrev pub Bits : List ℕ → Type 0
-Bits bs = All (λ b. b ≤ 1) bs
+Bits bs = AllByRecursion (λ b. b ≤ 1) bs
 
 -- the number of the first that passes a test, in a list whose first has number i
 abbrev pub first_from : {X : Type 0} → ℕ → (X → Bool) → List X → Option ℕ

@@ -1,6 +1,6 @@
 -- The labels that a cost charges, and what it comes to. Assumes nothing.
 use Rattle.std.specs.Prelude.{ℕ, suc, Bool, true, false, cond, ◌&&◌, List, [], ◌∷◌, map}
-use Rattle.std.specs.List.{AllByRecursion as All}
+use Rattle.std.specs.List.{AllByRecursion}
 use Rattle.weight.specs.Kind.{Kind}
 use Rattle.weight.specs.declared.kind.Weight.{Ghosts}
 use Rattle.sheet.specs.Rows.{is_label}
@@ -29,7 +29,7 @@ billed k bill weights v i (x ∷ xs) = k.sum (cond (charged bill x.standing (v i
 
 -- every label has one of the weights, and any other item the ordinal 0
 abbrev pub Weighed : ℕ → List Item → Type 0
-Weighed softs row = All (λ x. OrdinalOf softs x.standing x.ordinal) row
+Weighed softs row = AllByRecursion (λ x. OrdinalOf softs x.standing x.ordinal) row
 
 -- What a bill comes to, and the two costs, for a lent row, lent weights and an answer in bytes.
 

@@ -3,7 +3,7 @@ ghost use Rattle.std.specs.Prelude.{◌≡◌, ◌≤◌, not, length, take, ◌
 ghost use Rattle.meaning.specs.Unwinding.{made_true, mended, plan_of, unwound};
 ghost use Rattle.sheet.specs.Literals.{Literal, denied};
 ghost use Rattle.sheet.specs.Records.{Stacked, records};
-ghost use Rattle.std.specs.List.{AllByRecursion as All};
+ghost use Rattle.std.specs.List.{AllByRecursion};
 ghost use Rattle.unwinding.specs.Bytes.{Bits, record_of, row_and_stack, values_of};
 
 use crate::bytes::reset_retired;
@@ -45,7 +45,7 @@ fn mend(answer: &mut [u8], lits: &[u16], witness: u16)
 fn follow(stack: &[u16], fill: usize, answer: &mut [u8])
     requires fits { fill ≤ length stack.now }
     requires laid { Stacked (take fill stack.now) }
-    requires literals { All (λ r. All (Literal (length answer.old)) r.lits) (records (take fill stack.now)) }
+    requires literals { AllByRecursion (λ r. AllByRecursion (Literal (length answer.old)) r.lits) (records (take fill stack.now)) }
     requires bits { Bits answer.old }
     ensures unwound { values_of answer.new ≡ unwound (records (take fill stack.now)) (values_of answer.old) }
     ensures bits { Bits answer.new }
@@ -69,7 +69,7 @@ pub fn unwind(answer: &mut [u8], row: &[Item], stack: &[u16], fill: usize)
     requires bits { Bits answer.old }
     requires fits { fill ≤ length stack.now }
     requires laid { Stacked (take fill stack.now) }
-    requires literals { All (λ r. All (Literal (length answer.old)) r.lits) (records (take fill stack.now)) }
+    requires literals { AllByRecursion (λ r. AllByRecursion (Literal (length answer.old)) r.lits) (records (take fill stack.now)) }
     ensures plan { values_of answer.new ≡ plan_of (row_and_stack (take (length answer.old) row.now) (records (take fill stack.now))) (values_of answer.old) }
     ensures bits { Bits answer.new }
 {

@@ -1,5 +1,5 @@
 use Rattle.std.proofs.Common.{◌≡◌, ℕ, ◌<◌, Bool, true, false, not, eqb, List, get_or, drop, sym, ap, ◌∙◌, arith}
-use Rattle.std.specs.List.{AllByRecursion as All}
+use Rattle.std.specs.List.{AllByRecursion}
 use Rattle.std.proofs.ByRecursion.{All-from_get_or}
 use Rattle.std.proofs.lemmas.List.{drop_all}
 use Rattle.std.proofs.lemmas.Bool.{and_left, and_right, eq-eqb, not_from_true}
@@ -13,7 +13,7 @@ use Rattle.elimination.proofs.pair.clashes.Goals as goal
 use Rattle.elimination.proofs.pair.clashes.Goals.{else-w-y-via-then-w-y+else-has, else-w-y-via-else-w-y}
 
 -- the other way round
-turned : (table : List Bool) (x y : ℕ) (d : List ℕ) → x < 65536 → y ≡ opposite x → All (λ w. w < 65536) d → (ws : List ℕ) → MarksOf table ws → some (clashes_at y (working ws)) d ≡ some (clashes_at x (working d)) ws
+turned : (table : List Bool) (x y : ℕ) (d : List ℕ) → x < 65536 → y ≡ opposite x → AllByRecursion (λ w. w < 65536) d → (ws : List ℕ) → MarksOf table ws → some (clashes_at y (working ws)) d ≡ some (clashes_at x (working d)) ws
 turned table x y d word is words ws marks = ap (λ z. some (clashes_at z (working ws)) d) is ∙ clash_swap x ws d word (marked_words table ws marks) words
 
 -- what the flag of a word's denial says
@@ -24,7 +24,7 @@ pub returns-then-has : goal.returns-then-has
 returns-then-has c = λ ws marks.
     let d = c.args.d.now in
     let i = c.loop-w.w-index in
-    let words : All (λ w. w < 65536) d = All-from_get_or (λ w. w < 65536) d 0 (λ k inside. omega (arith, c.type_inv.d k)) in
+    let words : AllByRecursion (λ w. w < 65536) d = All-from_get_or (λ w. w < 65536) d 0 (λ k inside. omega (arith, c.type_inv.d k)) in
     let there : has (opposite (get_or d i 0)) ws ≡ true = flagged c.args.marked.now.table ws (get_or d i 0) c.opposite.result c.has.result marks c.opposite.ensures c.has.ensures ∙ c.if-has.true in
     sym (clash_here c.opposite-y.result ws d i c.loop-w-test.true c.if-w-y.true there) ∙ c.loop-w.invariant ws marks
     ∙ turned c.args.marked.now.table c.args.x c.opposite-y.result d (omega arith) c.opposite-y.ensures words ws marks
@@ -46,6 +46,6 @@ returns c = λ ws marks.
     let d = c.args.d.now in
     let i = c.loop-w.w-index in
     let y = c.opposite-y.result in
-    let words : All (λ w. w < 65536) d = All-from_get_or (λ w. w < 65536) d 0 (λ k inside. omega (arith, c.type_inv.d k)) in
+    let words : AllByRecursion (λ w. w < 65536) d = All-from_get_or (λ w. w < 65536) d 0 (λ k inside. omega (arith, c.type_inv.d k)) in
     let none : some (clashes_at y (working ws)) (drop i d) ≡ false = ap (some (clashes_at y (working ws))) (drop_all i d c.loop-w-test.false) in
     sym none ∙ c.loop-w.invariant ws marks ∙ turned c.args.marked.now.table c.args.x y d (omega arith) c.opposite-y.ensures words ws marks

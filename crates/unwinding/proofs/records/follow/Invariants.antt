@@ -1,5 +1,5 @@
 use Rattle.std.proofs.Common.{◌≡◌, ◌≤◌, length, take}
-use Rattle.std.specs.List.{AllByRecursion as All}
+use Rattle.std.specs.List.{AllByRecursion}
 use Rattle.meaning.specs.Unwinding.{unwound}
 use Rattle.sheet.specs.Literals.{Literal}
 use Rattle.sheet.specs.Records.{Stacked, records}
@@ -10,7 +10,7 @@ abbrev pub invariant-loop-end : goal.invariant-loop-end
 invariant-loop-end l =
     (l.end ≤ l.fill)
     × Stacked (take l.end l.stack)
-    × All (λ r. All (Literal (length l.initial.answer)) r.lits) (records (take l.end l.stack))
+    × AllByRecursion (λ r. AllByRecursion (Literal (length l.initial.answer)) r.lits) (records (take l.end l.stack))
     × Bits l.answer
     × (unwound (records (take l.end l.stack)) (values_of l.answer) ≡ unwound (records (take l.fill l.stack)) (values_of l.initial.answer))
 

@@ -1,5 +1,5 @@
 use Rattle.std.proofs.Common.{take, sym, ap, ◌∙◌, subst}
-use Rattle.std.specs.List.{AllByRecursion as All}
+use Rattle.std.specs.List.{AllByRecursion}
 use Rattle.sheet.specs.Literals.{Literal}
 use Rattle.sheet.specs.Records.{records}
 use Rattle.meaning.specs.Unwinding.{unwound}
@@ -9,7 +9,7 @@ pub follow-requires : goal.follow-requires
 follow-requires c = record {
   fits = c.requires.fits;
   laid = c.requires.laid;
-  literals = subst (λ n. All (λ r. All (Literal n) r.lits) (records (take c.args.fill c.args.stack.now))) (sym c.reset_retired.auto.answer) c.requires.literals;
+  literals = subst (λ n. AllByRecursion (λ r. AllByRecursion (Literal n) r.lits) (records (take c.args.fill c.args.stack.now))) (sym c.reset_retired.auto.answer) c.requires.literals;
   bits = c.reset_retired.ensures.bits;
 }
 
