@@ -6,7 +6,7 @@ use Rattle.std.proofs.lemmas.List.{length-set, length-take-le}
 use Rattle.std.proofs.lemmas.Bool.{and_parts, both_ways, cond-false, cond-true, le-leb, lt-leb, not_from_false}
 use Rattle.weight.specs.Kind.{Lawful}
 use Rattle.weight.specs.declared.kind.Weight.{Ghosts}
-use Rattle.sheet.specs.declared.buffers.Phase.TheVariants.{Working as at-work}
+use Rattle.sheet.specs.declared.buffers.Phase.TheVariants.{Working as at_work}
 use Rattle.sheet.specs.declared.row.Item.{Item}
 use Rattle.sheet.specs.declared.row.Standing.TheVariants.{Covered}
 use Rattle.sheet.specs.Clauses.{Clause, Laid, clauses}
@@ -59,7 +59,7 @@ module _ {W : Type 0} (m : Ghosts W) (b : Lent W) where
   unfolding covering decoded
   none_left none = ap (option_map (covered_out m.kind (decoded m b))) (sym none)
 
-  module _ (together : HoldsTogether m at-work b) where
+  module _ (together : HoldsTogether m at_work b) where
     pub all_weighed : Weighed (used_row b) (used_weights b)
     all_weighed = rw (length-take-le b.counts.softs b.weights together.weights.fits) together.row.ranged
 
@@ -161,7 +161,7 @@ pub record EliminatingFrom {W : Type 0} (m : Ghosts W) (laws : Lawful m.kind) (l
   pub low : 1 ≤ from
   pub none : NoneBelow (is_covered m.kind (sighted m c)) from
 
-pub eliminating_none : {W : Type 0} (m : Ghosts W) (laws : Lawful m.kind) (limit : ℕ) (b : Lent W) → HoldsTogether m at-work b → EliminatingFrom m laws limit b b 0 1
+pub eliminating_none : {W : Type 0} (m : Ghosts W) (laws : Lawful m.kind) (limit : ℕ) (b : Lent W) → HoldsTogether m at_work b → EliminatingFrom m laws limit b b 0 1
 eliminating_none m laws limit b together = record { loop = stepping_none m laws (covering m.kind) fits_always (λ room. covering_keeps laws) limit b together; low = omega arith; none = λ j first less. absurd (omega arith) }
 
 -- What the run answers.

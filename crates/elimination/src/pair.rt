@@ -4,14 +4,14 @@ ghost use Rattle.std.specs.Prelude.{◌≡◌, ℕ, ◌&&◌, List};
 ghost use Rattle.elimination.specs.Resolving.{working, pairs_with};
 ghost use Rattle.marking.specs.Marks.{MarksOf};
 ghost use Rattle.steps.specs.Elimination.{clashes_at};
-ghost use Rattle.steps.specs.Places.{some as someWord};
+ghost use Rattle.steps.specs.Places.{some as some_word};
 
 use marking::Marked;
 use sheet::literal::{has_literal, opposite};
 
 // Whether `d` denies a literal of the marked clause other than `x`.
 fn clashes(marked: &Marked, d: &[u16], x: u16) -> bool
-    ensures { (c : List ℕ) → MarksOf marked.now.table c → result ≡ someWord (clashes_at x (working d.now)) c }
+    ensures { (c : List ℕ) → MarksOf marked.now.table c → result ≡ some_word (clashes_at x (working d.now)) c }
 {
     let y = opposite(x);
     for w in d {

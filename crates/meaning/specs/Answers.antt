@@ -25,9 +25,9 @@ met v (w ∷ ws) = is_true v w || met v ws
 
 -- a soft clause binds nobody
 abbrev pub kept_as : Tag → Bool → Bool
-kept_as Hard isMet = isMet
-kept_as (Soft n) isMet = true
-kept_as Working isMet = isMet
+kept_as Hard is_met = is_met
+kept_as (Soft n) is_met = true
+kept_as Working is_met = is_met
 
 abbrev pub meets_all : Values → List Clause → Bool
 meets_all v [] = true
@@ -56,9 +56,9 @@ module _ {V : Type 0} (k : Kind V) where
 
   -- a soft clause costs its weight when it is broken
   abbrev pub owed : List V → Tag → Bool → V
-  owed weights Hard isMet = k.zero
-  owed weights (Soft n) isMet = cond isMet k.zero (weight_of weights n)
-  owed weights Working isMet = k.zero
+  owed weights Hard is_met = k.zero
+  owed weights (Soft n) is_met = cond is_met k.zero (weight_of weights n)
+  owed weights Working is_met = k.zero
 
   abbrev pub soft_cost : List V → Values → List Clause → V
   soft_cost weights v [] = k.zero

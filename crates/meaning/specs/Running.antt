@@ -2,7 +2,7 @@
 use Rattle.std.specs.Prelude.{◌≡◌, ℕ, ◌≤◌, true, false, List, ◌++◌, length}
 use Rattle.std.specs.List.{AllByRecursion}
 use Rattle.weight.specs.Kind.{Kind, total_of}
-use Rattle.sheet.specs.declared.buffers.Phase.TheVariants.{Working as at-work}
+use Rattle.sheet.specs.declared.buffers.Phase.TheVariants.{Working as at_work}
 use Rattle.sheet.specs.declared.clause.Tag.TheVariants.{Working}
 use Rattle.sheet.specs.declared.row.Item.{Item}
 use Rattle.sheet.specs.Literals.{Literal, item_of}
@@ -20,7 +20,7 @@ use Rattle.meaning.specs.Unwinding.{reset, unwound}
 pub record Holds {V : Type 0} (k : Kind V) (s : Sheet V) : Type 0 where
   pub kinds : AllByRecursion (λ c. c.tag ≡ Working) s.clauses
   pub valid : AllByRecursion Valid s.clauses
-  pub literals : AllByRecursion (λ c. AllByRecursion (Stands at-work (length s.row) s.row) c.lits) s.clauses
+  pub literals : AllByRecursion (λ c. AllByRecursion (Stands at_work (length s.row) s.row) c.lits) s.clauses
   pub ranged : AllByRecursion (λ x. OrdinalOf (length s.weights) x.standing x.ordinal) s.row
   pub apart : Distinct (label_ordinals s.row)
   pub records : AllByRecursion ValidRecord s.stack

@@ -6,7 +6,7 @@ use Rattle.std.proofs.lemmas.Bool.{leb-true}
 use Rattle.weight.specs.Kind.{Lawful}
 use Rattle.weight.specs.declared.kind.Weight.{Ghosts}
 use Rattle.sheet.specs.declared.buffers.Marks.{Marks}
-use Rattle.sheet.specs.declared.buffers.Phase.TheVariants.{Working as at-work}
+use Rattle.sheet.specs.declared.buffers.Phase.TheVariants.{Working as at_work}
 use Rattle.sheet.specs.declared.row.Item.{Item}
 use Rattle.sheet.specs.Clauses.{Clause, Laid, clauses}
 use Rattle.sheet.specs.Literals.{Literal, item_of}
@@ -41,7 +41,7 @@ module _ {W : Type 0} (m : Ghosts W) (b : Lent W) where
   unfolding propagation decoded
   none_left none = ap (option_map (made_unit (decoded m b))) (sym none)
 
-  module _ (together : HoldsTogether m at-work b) (w : ℕ) (found : Some w ≡ first_unit (used_clauses b)) where
+  module _ (together : HoldsTogether m at_work b) (w : ℕ) (found : Some w ≡ first_unit (used_clauses b)) where
     abbrev s : Sheet m.Value
     s = decoded m b
 

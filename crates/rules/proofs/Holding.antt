@@ -6,11 +6,11 @@ use Rattle.std.proofs.lemmas.List.{get_or-take, length-map, length-take-le}
 use Rattle.std.proofs.lemmas.Bool.{false≢true}
 use Rattle.weight.specs.Kind.{Kind, total_of}
 use Rattle.weight.specs.declared.kind.Weight.{Ghosts}
-use Rattle.sheet.specs.declared.buffers.Phase.TheVariants.{Working as at-work}
+use Rattle.sheet.specs.declared.buffers.Phase.TheVariants.{Working as at_work}
 use Rattle.sheet.specs.declared.clause.Tag.{Tag}
 use Rattle.sheet.specs.declared.clause.Tag.TheVariants.{Hard, Soft, Working}
 use Rattle.sheet.specs.declared.refusal.Part.{Part}
-use Rattle.sheet.specs.declared.refusal.Part.TheVariants.{Sheet as in-sheet, Row as in_row, Stack as in_stack, Weights as in-weights}
+use Rattle.sheet.specs.declared.refusal.Part.TheVariants.{Sheet as in_sheet, Row as in_row, Stack as in_stack, Weights as in_weights}
 use Rattle.sheet.specs.declared.row.Item.{Item}
 use Rattle.sheet.specs.Literals.{item_of}
 use Rattle.sheet.specs.Rows.{item_at, is_label, is_live, label_ordinals}
@@ -24,7 +24,7 @@ use Rattle.meaning.specs.Running.{Holds}
 
 -- Working clauses.
 
-is_working : (t : Tag) → of_phase at-work t ≡ true → t ≡ Working
+is_working : (t : Tag) → of_phase at_work t ≡ true → t ≡ Working
 is_working Hard is = absurd (false≢true is)
 is_working (Soft n) is = absurd (false≢true is)
 is_working Working is = refl
@@ -52,7 +52,7 @@ module _ (row : List Item) (n : ℕ) (long : n ≤ length row) (w : ℕ) where
   count : length (take n row) ≡ n
   count = length-take-le n row long
 
-  stands_front : Stands at-work n row w → Stands at-work (length (take n row)) (take n row) w
+  stands_front : Stands at_work n row w → Stands at_work (length (take n row)) (take n row) w
   stands_front stands =
       let high = stands.literal.high in
       let same = item_front row n (item_of w) high in
@@ -63,7 +63,7 @@ module _ (row : List Item) (n : ℕ) (long : n ≤ length row) (w : ℕ) where
         undenied = λ inside denied. ap (λ x. is_label x.standing) same ∙ stands.undenied fits denied;
       }
 
-  stands_whole : Stands at-work (length (take n row)) (take n row) w → Stands at-work n row w
+  stands_whole : Stands at_work (length (take n row)) (take n row) w → Stands at_work n row w
   stands_whole stands =
       let here = rw count at stands.literal in
       let fits : item_of w ≤ length (take n row) = stands.literal.high in
@@ -88,7 +88,7 @@ module _ {W : Type 0} (m : Ghosts W) (b : Lent W) where
   weights_count : b.counts.softs ≤ length b.weights → length (map m.value (used_weights b)) ≡ b.counts.softs
   weights_count fits = length-map (used_weights b) m.value ∙ length-take-le b.counts.softs b.weights fits
 
-  pub framed : HoldsTogether m at-work b → Framed b
+  pub framed : HoldsTogether m at_work b → Framed b
   framed t = record {
     sheet = t.sheet.fits;
     laid = t.sheet.laid;
@@ -98,7 +98,7 @@ module _ {W : Type 0} (m : Ghosts W) (b : Lent W) where
     weights = t.weights.fits;
   }
 
-  pub holds : HoldsTogether m at-work b → Holds m.kind (decoded m b)
+  pub holds : HoldsTogether m at_work b → Holds m.kind (decoded m b)
   unfolding decoded
   holds t = record {
     kinds = All-weaker _ _ (λ c. is_working c.tag) (used_clauses b) t.sheet.kinds;
@@ -111,7 +111,7 @@ module _ {W : Type 0} (m : Ghosts W) (b : Lent W) where
     ceiling = ap m.kind.within (total_map m.kind m.value (used_weights b)) ∙ t.weights.ceiling;
   }
 
-  pub together : Framed b → Holds m.kind (decoded m b) → HoldsTogether m at-work b
+  pub together : Framed b → Holds m.kind (decoded m b) → HoldsTogether m at_work b
   unfolding decoded
   together f h =
       let none = no_ordinals (used_clauses b) h.kinds in
@@ -119,7 +119,7 @@ module _ {W : Type 0} (m : Ghosts W) (b : Lent W) where
         sheet = record {
           fits = f.sheet;
           laid = f.laid;
-          kinds = All-weaker _ _ (λ c is. ap (of_phase at-work) is) (used_clauses b) h.kinds;
+          kinds = All-weaker _ _ (λ c is. ap (of_phase at_work) is) (used_clauses b) h.kinds;
           literals = All-weaker _ _ (λ c. All-weaker _ _ (stands_whole b.row b.counts.items f.row) c.lits) (used_clauses b) h.literals;
           ranged = rw none tt;
           apart = rw none tt;
@@ -139,8 +139,8 @@ module _ {W : Type 0} (m : Ghosts W) (b : Lent W) where
       }
 
   -- no part fails
-  pub none_fails : HoldsTogether m at-work b → (part : Part) → Fails m at-work b part → ⊥
-  none_fails t in-sheet fails = fails t.sheet
+  pub none_fails : HoldsTogether m at_work b → (part : Part) → Fails m at_work b part → ⊥
+  none_fails t in_sheet fails = fails t.sheet
   none_fails t in_row fails = fails.1 t.row
   none_fails t in_stack fails = fails.2 t.stack
-  none_fails t in-weights fails = fails.3 t.weights
+  none_fails t in_weights fails = fails.3 t.weights

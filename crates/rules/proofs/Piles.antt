@@ -3,7 +3,7 @@ use Rattle.std.proofs.Common.{◌≡◌, ℕ, suc, ◌+◌, ◌-◌, ◌<◌, �
 use Rattle.weight.specs.Kind.{Lawful}
 use Rattle.weight.specs.declared.kind.Weight.{Ghosts}
 use Rattle.sheet.specs.declared.buffers.Counts.{Counts}
-use Rattle.sheet.specs.declared.buffers.Phase.TheVariants.{Working as at-work}
+use Rattle.sheet.specs.declared.buffers.Phase.TheVariants.{Working as at_work}
 use Rattle.sheet.specs.declared.refusal.Part.{Part}
 use Rattle.sheet.specs.declared.refusal.Refusal.{Refusal}
 use Rattle.sheet.specs.declared.refusal.Refusal.TheVariants.{NotTogether}
@@ -29,7 +29,7 @@ behind_both b c d counts first second = subst (λ (n : Counts). drop n.items d.r
 
 module _ {W : Type 0} (m : Ghosts W) where
   -- after a run the buffers hold together, so that the next refuses nothing
-  pub no_refusal : {X : Type 0} (c : Lent W) {e : Refusal} → HoldsTogether m at-work c → (part : Part) × (e ≡ NotTogether part) × Fails m at-work c part → X
+  pub no_refusal : {X : Type 0} (c : Lent W) {e : Refusal} → HoldsTogether m at_work c → (part : Part) × (e ≡ NotTogether part) × Fails m at_work c part → X
   no_refusal c still refused = absurd (none_fails m c still refused.0 refused.2)
 
   module _ (laws : Lawful m.kind) where
@@ -60,8 +60,8 @@ module _ {W : Type 0} (m : Ghosts W) where
 
   -- Rounds: i are made, with some steps, and whatever the others come to, all come to that after these steps.
   pub record Going (rule : Room → Runs (Sheet m.Value)) (rounds n : ℕ) (b c : Lent W) (i steps : ℕ) : Type 0 where
-    pub before : HoldsTogether m at-work b
-    pub still : HoldsTogether m at-work c
+    pub before : HoldsTogether m at_work b
+    pub still : HoldsTogether m at_work c
     pub spent : steps ≤ n
     pub exact : (o : Outcome (Sheet m.Value)) → Repeated (rule (room_of b)) (rounds - i) (n - steps) (decoded m c) o → Repeated (rule (room_of b)) rounds n (decoded m b) (following steps o)
     pub ran : (o : Outcome (Sheet m.Value)) → Ran m.kind (n - steps) (decoded m c) o → Ran m.kind n (decoded m b) (following steps o)
@@ -70,7 +70,7 @@ module _ {W : Type 0} (m : Ghosts W) where
     pub behind : drop b.counts.items c.row ≡ drop b.counts.items b.row
 
   module _ (rule : Room → Runs (Sheet m.Value)) (rounds n : ℕ) (b : Lent W) where
-    pub going_none : HoldsTogether m at-work b → Going rule rounds n b b 0 0
+    pub going_none : HoldsTogether m at_work b → Going rule rounds n b b 0 0
     going_none before =
         let all : rounds - 0 ≡ rounds = omega arith in
         let whole : n - 0 ≡ n = omega arith in

@@ -2,7 +2,7 @@
 use Rattle.std.proofs.Common.{◌≡◌, ℕ, ◌+◌, ◌<◌, Bool, true, false, drop, Some, None, Option, sym, refl, ap, ◌∙◌}
 use Rattle.weight.specs.Kind.{Lawful}
 use Rattle.weight.specs.declared.kind.Weight.{Ghosts}
-use Rattle.sheet.specs.declared.buffers.Phase.TheVariants.{Working as at-work}
+use Rattle.sheet.specs.declared.buffers.Phase.TheVariants.{Working as at_work}
 use Rattle.sheet.specs.Sheets.{Sheet, Lent, decoded}
 use Rattle.sheet.specs.Together.{HoldsTogether}
 use Rattle.meaning.specs.declared.report.Ending.TheVariants.{Done, Limit, Full}
@@ -40,7 +40,7 @@ module _ {W : Type 0} (m : Ghosts W) (laws : Lawful m.kind) (step : Sheet m.Valu
   repeats room n s o = o ≡ repeated_step step (fits room) n s
 
   -- a run that is exactly the repeated step
-  pub went_exactly : (limit : ℕ) (b c : Lent W) (r : Report) → HoldsTogether m at-work b → Framed c → Follows b c
+  pub went_exactly : (limit : ℕ) (b c : Lent W) (r : Report) → HoldsTogether m at_work b → Framed c → Follows b c
       → outcome r.steps r.ending (decoded m c) ≡ repeated_step step (fits (room_of b)) limit (decoded m b) → Went m repeats limit b c r
   went_exactly limit b c r before frame follows exact = record {
     before = before;
@@ -57,12 +57,12 @@ module _ {W : Type 0} (m : Ghosts W) (laws : Lawful m.kind) (step : Sheet m.Valu
 
   -- A loop that makes a step in each turn: b is where it began, c where it is.
   pub record Stepping (limit : ℕ) (b c : Lent W) (steps : ℕ) : Type 0 where
-    pub before : HoldsTogether m at-work b
-    pub still : HoldsTogether m at-work c
+    pub before : HoldsTogether m at_work b
+    pub still : HoldsTogether m at_work c
     pub turning : Turning step (fits (room_of b)) limit (decoded m b) (decoded m c) steps
     pub follows : Follows b c
 
-  pub stepping_none : (limit : ℕ) (b : Lent W) → HoldsTogether m at-work b → Stepping limit b b 0
+  pub stepping_none : (limit : ℕ) (b : Lent W) → HoldsTogether m at_work b → Stepping limit b b 0
   stepping_none limit b before = record { before = before; still = before; turning = turning_none step (fits (room_of b)) limit (decoded m b); follows = follows_itself b }
 
   module _ {limit : ℕ} {b c : Lent W} {steps : ℕ} (h : Stepping limit b c steps) where

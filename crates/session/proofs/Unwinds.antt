@@ -7,7 +7,7 @@ use Rattle.std.proofs.lemmas.List.{length-take-le, take_all}
 use Rattle.std.proofs.lemmas.Bool.{cases_Bool, cond-false, eqb-true, false≢true}
 use Rattle.weight.specs.Kind.{Kind, Lawful, ExactOrTooLarge}
 use Rattle.weight.specs.declared.kind.Weight.{Ghosts}
-use Rattle.sheet.specs.declared.buffers.Phase.TheVariants.{Working as in-work}
+use Rattle.sheet.specs.declared.buffers.Phase.TheVariants.{Working as in_work}
 use Rattle.sheet.specs.declared.clause.Tag.{Tag}
 use Rattle.sheet.specs.declared.clause.Tag.TheVariants.{Hard, Soft, Working}
 use Rattle.sheet.specs.declared.refusal.Refusal.{Refusal}
@@ -53,12 +53,12 @@ module _ (items : ℕ) (cs : List Clause) (answer : List ℕ) (passes : answer_c
   pub passes_met : first_unmet (values_of answer) cs ≡ None
   passes_met = none_mapped ClauseUnmet (first_unmet (values_of answer) cs) behind_length.1
 
-works : (t : Tag) → of_phase in-work t ≡ true → t ≡ Working
+works : (t : Tag) → of_phase in_work t ≡ true → t ≡ Working
 works Hard is = absurd (false≢true is)
 works (Soft n) is = absurd (false≢true is)
 works Working is = refl
 
-module _ {W : Type 0} (m : Ghosts W) (laws : Lawful m.kind) (b : Lent W) (together : HoldsTogether m in-work b) (sent : List ℕ) (passes : answer_cause b.counts.items (used_clauses b) sent ≡ None) where
+module _ {W : Type 0} (m : Ghosts W) (laws : Lawful m.kind) (b : Lent W) (together : HoldsTogether m in_work b) (sent : List ℕ) (passes : answer_cause b.counts.items (used_clauses b) sent ≡ None) where
   long : length sent ≡ b.counts.items
   long = passes_long b.counts.items (used_clauses b) sent passes
 

@@ -13,7 +13,7 @@ use Rattle.session.specs.declared.gathering.Gathering.{Gathering}
 
 -- why an open for so many items with a row of this length refuses
 abbrev pub open_cause : ℕ → ℕ → Option Refusal
-open_cause asked rowLength = cond (nat_lt 2000 asked) (Some (TooManyItems asked)) (cond (nat_lt rowLength asked) (Some (RowTooShort rowLength)) None)
+open_cause asked row_length = cond (nat_lt 2000 asked) (Some (TooManyItems asked)) (cond (nat_lt row_length asked) (Some (RowTooShort row_length)) None)
 
 pub record NewSheet (asked : ℕ) (before after : List Item) (g : Gathering) : Type 0 where
   pub passes : open_cause asked (length before) ≡ None

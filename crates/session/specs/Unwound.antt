@@ -37,14 +37,14 @@ abbrev pub unwind_cause : {W : Type 0} (m : Ghosts W) → Lent W → List ℕ �
 unwind_cause m b answer = answer_cause b.counts.items (decoded m b).clauses answer
 
 -- An unwind that passes: the answer as it was sent, as it is then, the sheet's cost of what was sent, and the total of the labels that are then paid.
-pub record Unwound {W : Type 0} (m : Ghosts W) (b : Lent W) (sent after : List ℕ) (sheetCost paid : W) : Type 0 where
+pub record Unwound {W : Type 0} (m : Ghosts W) (b : Lent W) (sent after : List ℕ) (sheet_cost paid : W) : Type 0 where
   pub together : HoldsTogether m Working b
   pub passes : unwind_cause m b sent ≡ None
   pub answers : Answer (decoded m b) (values_of sent)
   pub plan : values_of after ≡ plan_of (decoded m b) (values_of sent)
   pub bits : Bits after
   pub long : length after ≡ length sent
-  pub sheet_costs : m.value sheetCost ≡ cost m.kind (decoded m b) (values_of sent)
+  pub sheet_costs : m.value sheet_cost ≡ cost m.kind (decoded m b) (values_of sent)
   pub paid_costs : m.value paid ≡ paid_cost m.kind (decoded m b).weights (values_of after) 1 (decoded m b).row
 
 abbrev pub UnwindAnswered : {W : Type 0} (m : Ghosts W) → Lent W → List ℕ → List ℕ → Result (W × W) Refusal → Type 0
@@ -52,10 +52,10 @@ UnwindAnswered m b sent after (Ok costs) = Unwound m b sent after costs.0 costs.
 UnwindAnswered m b sent after (Err e) = Refuses m Working b (unwind_cause m b sent) e × (after ≡ sent)
 
 -- What an answer has become meets every accepted hard clause; it breaks wishes for no more than the sheet's cost, and no more than that is paid.
-pub record PlansWithin {W : Type 0} (m : Ghosts W) (acc : List (Accepted m.Value)) (after : List ℕ) (sheetCost paid : W) : Type 0 where
+pub record PlansWithin {W : Type 0} (m : Ghosts W) (acc : List (Accepted m.Value)) (after : List ℕ) (sheet_cost paid : W) : Type 0 where
   pub keeps : Plan acc (values_of after)
-  pub no_dearer : AtMost m.kind (plan_cost m.kind acc (values_of after)) (m.value sheetCost)
-  pub pays_no_more : AtMost m.kind (m.value paid) (m.value sheetCost)
+  pub no_dearer : AtMost m.kind (plan_cost m.kind acc (values_of after)) (m.value sheet_cost)
+  pub pays_no_more : AtMost m.kind (m.value paid) (m.value sheet_cost)
 
 abbrev pub UnwoundWithin : {W : Type 0} (m : Ghosts W) → List (Accepted m.Value) → List ℕ → Result (W × W) Refusal → Type 0
 UnwoundWithin m acc after (Ok costs) = PlansWithin m acc after costs.0 costs.1

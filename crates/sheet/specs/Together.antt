@@ -6,7 +6,7 @@ use Rattle.weight.specs.declared.kind.Weight.{Ghosts}
 use Rattle.sheet.specs.declared.buffers.Phase.{Phase}
 use Rattle.sheet.specs.declared.buffers.Phase.TheVariants.{Gathering, Working}
 use Rattle.sheet.specs.declared.refusal.Part.{Part}
-use Rattle.sheet.specs.declared.refusal.Part.TheVariants.{Sheet as in-sheet, Row as in_row, Stack as in_stack, Weights as in-weights}
+use Rattle.sheet.specs.declared.refusal.Part.TheVariants.{Sheet as in_sheet, Row as in_row, Stack as in_stack, Weights as in_weights}
 use Rattle.sheet.specs.Literals.{Literal, item_of, denied}
 use Rattle.sheet.specs.Rows.{Item, Standing, Plain, Label, Fixed, Covered, Forced, live_at, label_at, label_ordinals}
 use Rattle.sheet.specs.Clauses.{Tag, Hard, Soft, Working as Worked, Laid, soft_ordinals}
@@ -82,10 +82,10 @@ pub record HoldsTogether {W : Type 0} (m : Ghosts W) (phase : Phase) (b : Lent W
 
 -- the part is the first that fails
 abbrev pub Fails : {W : Type 0} (m : Ghosts W) → Phase → Lent W → Part → Type 0
-Fails m phase b in-sheet = SheetHolds phase b → ⊥
+Fails m phase b in_sheet = SheetHolds phase b → ⊥
 Fails m phase b in_row = SheetHolds phase b × (RowHolds b → ⊥)
 Fails m phase b in_stack = SheetHolds phase b × RowHolds b × (StackHolds phase b → ⊥)
-Fails m phase b in-weights = SheetHolds phase b × RowHolds b × StackHolds phase b × (WeightsHold m b → ⊥)
+Fails m phase b in_weights = SheetHolds phase b × RowHolds b × StackHolds phase b × (WeightsHold m b → ⊥)
 
 -- What the check answers: the first part that fails, if one does.
 abbrev pub Checked : {W : Type 0} (m : Ghosts W) → Phase → Lent W → Option Part → Type 0

@@ -5,7 +5,7 @@ use Rattle.std.proofs.ByRecursion.{All-append, all_kept_by}
 use Rattle.std.proofs.lemmas.List.Filters.{length-filter_both}
 use Rattle.std.proofs.lemmas.Bool.{cond_both}
 use Rattle.weight.specs.Kind.{Kind}
-use Rattle.sheet.specs.declared.buffers.Phase.TheVariants.{Working as at-work}
+use Rattle.sheet.specs.declared.buffers.Phase.TheVariants.{Working as at_work}
 use Rattle.sheet.specs.declared.clause.Tag.TheVariants.{Working}
 use Rattle.sheet.specs.declared.row.Item.{Item}
 use Rattle.sheet.specs.declared.row.Standing.{Standing}
@@ -24,7 +24,7 @@ use Rattle.steps.proofs.Aging.{Aged, aged_ranged, aged_apart, aged_retired, reti
 pub record ClauseHolds (row : List Item) (c : Clause) : Type 0 where
   pub working : c.tag ≡ Working
   pub valid : Valid c
-  pub stands : AllByRecursion (Stands at-work (length row) row) c.lits
+  pub stands : AllByRecursion (Stands at_work (length row) row) c.lits
 
 -- Clauses of a sheet that holds together.
 

@@ -3,7 +3,7 @@ use Rattle.std.proofs.Common.{◌≡◌, ℕ, zero, suc, ◌+◌, ◌≤◌, min
 use Rattle.std.specs.Option.{option_map}
 use Rattle.weight.specs.Kind.{Lawful}
 use Rattle.weight.specs.declared.kind.Weight.{Ghosts}
-use Rattle.sheet.specs.declared.buffers.Phase.TheVariants.{Working as at-work}
+use Rattle.sheet.specs.declared.buffers.Phase.TheVariants.{Working as at_work}
 use Rattle.sheet.specs.Clauses.{Clause, Laid, clauses}
 use Rattle.sheet.specs.Sheets.{Sheet, Lent, decoded, used_clauses}
 use Rattle.sheet.specs.Together.{HoldsTogether}
@@ -42,7 +42,7 @@ module _ {V : Type 0} (s : Sheet V) where
 abbrev pub with_sheet : {W : Type 0} → Lent W → List ℕ → ℕ → Lent W
 with_sheet b sheet fill = record { sheet = sheet; row = b.row; stack = b.stack; weights = b.weights; marks = record { sheet = fill; stack = b.marks.stack }; counts = b.counts }
 
-module _ {W : Type 0} (m : Ghosts W) (laws : Lawful m.kind) (b : Lent W) (before : HoldsTogether m at-work b) (limit : ℕ) (sheet : List ℕ) (fill : ℕ) (r : Report)
+module _ {W : Type 0} (m : Ghosts W) (laws : Lawful m.kind) (b : Lent W) (before : HoldsTogether m at_work b) (limit : ℕ) (sheet : List ℕ) (fill : ℕ) (r : Report)
     (long : length sheet ≡ length b.sheet) (shrinks : fill ≤ b.marks.sheet) (laid : Laid (take fill sheet))
     (exact : outcome r.steps r.ending (clauses (take fill sheet)) ≡ repeated_step subsumed_once fits_always limit (used_clauses b)) where
   ran_so : outcome r.steps r.ending (decoded m (with_sheet b sheet fill)) ≡ repeated_step subsumption (λ t. true) limit (decoded m b)

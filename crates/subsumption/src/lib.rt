@@ -12,7 +12,7 @@ ghost use Rattle.std.specs.List.{between};
 ghost use Rattle.steps.specs.Places.{some};
 ghost use Rattle.steps.specs.Rewriting.{inside};
 ghost use Rattle.steps.specs.Subsumption.{SubsumptionRuns, is_subsumed, subsumed_once};
-ghost use Rattle.subsumption.specs.Sides.{subsumes as subsumesBy};
+ghost use Rattle.subsumption.specs.Sides.{subsumes as subsumes_by};
 
 use checking::holds_together;
 use meaning::report::{Ending, Report};
@@ -58,7 +58,7 @@ fn is_inside(sub: &[u16], sup: &[u16]) -> bool
 fn subsumes(side: Side, lits: &[u16], other: &[u16]) -> bool
     requires lits { Rising lits.now }
     requires other { Rising other.now }
-    ensures { result ≡ subsumesBy side lits.now (record { tag = Working; lits = other.now }) }
+    ensures { result ≡ subsumes_by side lits.now (record { tag = Working; lits = other.now }) }
 {
     match side {
         Side::Before => is_inside(other, lits),
@@ -72,7 +72,7 @@ fn some_subsumes(side: Side, lits: &[u16], sheet: &[u16], mut at: usize, end: us
     requires order { at ≤ end }
     requires fits { end ≤ length sheet.now }
     requires laid { Laid (between at end sheet.now) }
-    ensures { result ≡ some (subsumesBy side lits.now) (clauses (between at end sheet.now)) }
+    ensures { result ≡ some (subsumes_by side lits.now) (clauses (between at end sheet.now)) }
 {
     while at < end {
         let Place {

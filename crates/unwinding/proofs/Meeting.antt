@@ -3,7 +3,7 @@ use Rattle.std.proofs.Common.{◌≡◌, ℕ, ◌+◌, ◌<◌, ◌≤◌, Bool,
 use Rattle.std.specs.List.{AllByRecursion}
 use Rattle.std.proofs.lemmas.List.{at_drop_more, at_drop_all}
 use Rattle.std.proofs.lemmas.Bool.{or_left, and_from, and_parts, not_from_true, not-false, false≢true}
-use Rattle.sheet.specs.declared.buffers.Phase.TheVariants.{Working as in-work}
+use Rattle.sheet.specs.declared.buffers.Phase.TheVariants.{Working as in_work}
 use Rattle.sheet.specs.declared.clause.Tag.{Tag}
 use Rattle.sheet.specs.declared.clause.Tag.TheVariants.{Hard, Soft, Working}
 use Rattle.sheet.specs.Clauses.{Clause}
@@ -25,24 +25,24 @@ module _ (v : Values) where
     met_none end = at_drop_all (met v) ws i end
 
   -- a working clause binds
-  kept_working : (t : Tag) (isMet : Bool) → of_phase in-work t ≡ true → kept_as t isMet ≡ isMet
-  kept_working Hard isMet works = absurd (false≢true works)
-  kept_working (Soft n) isMet works = absurd (false≢true works)
-  kept_working Working isMet works = refl
+  kept_working : (t : Tag) (is_met : Bool) → of_phase in_work t ≡ true → kept_as t is_met ≡ is_met
+  kept_working Hard is_met works = absurd (false≢true works)
+  kept_working (Soft n) is_met works = absurd (false≢true works)
+  kept_working Working is_met works = refl
 
-  met_each : (cs : List Clause) → AllByRecursion (λ c. of_phase in-work c.tag ≡ true) cs → meets_all v cs ≡ true → AllByRecursion (λ c. is_unmet v c ≡ false) cs
+  met_each : (cs : List Clause) → AllByRecursion (λ c. of_phase in_work c.tag ≡ true) cs → meets_all v cs ≡ true → AllByRecursion (λ c. is_unmet v c ≡ false) cs
   met_each [] works holds = tt
   met_each (c ∷ cs) works holds =
       let p = and_parts (kept_as c.tag (met v c.lits)) (meets_all v cs) holds in
       (not_from_true _ (sym (kept_working c.tag (met v c.lits) works.0) ∙ p.0), met_each cs works.1 p.1)
 
-  met_all : (cs : List Clause) → AllByRecursion (λ c. of_phase in-work c.tag ≡ true) cs → AllByRecursion (λ c. is_unmet v c ≡ false) cs → meets_all v cs ≡ true
+  met_all : (cs : List Clause) → AllByRecursion (λ c. of_phase in_work c.tag ≡ true) cs → AllByRecursion (λ c. is_unmet v c ≡ false) cs → meets_all v cs ≡ true
   met_all [] works each = refl
   met_all (c ∷ cs) works each =
       and_from (kept_as c.tag (met v c.lits)) (meets_all v cs) (kept_working c.tag (met v c.lits) works.0 ∙ not-false _ each.0) (met_all cs works.1 each.1)
 
   -- No clause is found unmet exactly where all are met.
-  module _ (cs : List Clause) (works : AllByRecursion (λ c. of_phase in-work c.tag ≡ true) cs) where
+  module _ (cs : List Clause) (works : AllByRecursion (λ c. of_phase in_work c.tag ≡ true) cs) where
     pub meets_from_none : first_unmet v cs ≡ None → meets_all v cs ≡ true
     meets_from_none found = met_all cs works (all_from_none (is_unmet v) 0 cs found)
 
