@@ -2,6 +2,7 @@
 // That a holder parks in a bay is an item: 1 to 4 for the first holder in bays 1 to 4, 5 to 8 for the second, and so on.
 // Item 13 is that the overflow level is opened, which no plan here does.
 // A literal is the number of an item, or minus that number, which denies the item.
+use std::fmt;
 
 #[derive(Clone, Copy)]
 pub struct Bay {
@@ -37,6 +38,19 @@ pub struct Plan {
     pub name: &'static str,
     // the bay of each holder, in the order of HOLDERS
     pub bays: [u32; 3],
+}
+
+// Who parks where.
+impl fmt::Display for Plan {
+    fn fmt<W: fmt::Write>(&self, f: &mut fmt::Formatter<W>) -> fmt::Result {
+        for (i, (holder, bay)) in HOLDERS.iter().zip(&self.bays).enumerate() {
+            if i > 0 {
+                f.write_str(", ")?;
+            }
+            write!(f, "{} in bay {bay}", holder.name)?;
+        }
+        Ok(())
+    }
 }
 
 pub static BAYS: [Bay; 4] = [

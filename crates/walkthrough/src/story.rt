@@ -88,7 +88,7 @@ pub fn weigh_plans<W: Weighting>(rt: &HostRuntime) -> anyhow::Result<()> {
 }
 
 fn weigh_plan<W: Weighting>(rt: &HostRuntime, plan: &Plan) -> anyhow::Result<Tally<W>> {
-    show_plan(rt, plan)?;
+    println!(rt; "Plan {}: {plan}.", plan.name)?;
     let single = walk::<W>(rt, plan)?.single;
     let exact = cost::<W>(rt.alloc(), plan, &WISHES)?;
     let pays = exact.text();
@@ -99,20 +99,6 @@ fn weigh_plan<W: Weighting>(rt: &HostRuntime, plan: &Plan) -> anyhow::Result<Tal
 fn show_pays(rt: &HostRuntime, name: &str, pays: &str, single: f32) -> io::Result<()> {
     let says = Grouped::from_single(single);
     println!(rt; "  Plan {name} pays {pays}. Single precision says {says}.\n")
-}
-
-// Who parks where.
-fn show_plan(rt: &HostRuntime, plan: &Plan) -> io::Result<()> {
-    print!(rt; "Plan {}", plan.name)?;
-    for (i, bay) in plan.bays.iter().enumerate() {
-        show_parked(rt, i == 0, HOLDERS[i].name, *bay)?;
-    }
-    rt.println(".")
-}
-
-fn show_parked(rt: &HostRuntime, first: bool, name: &str, bay: u32) -> io::Result<()> {
-    let before = if first { ": " } else { ", " };
-    print!(rt; "{before}{name} in bay {bay}")
 }
 
 // A line for each wish, with what the plan pays so far.
