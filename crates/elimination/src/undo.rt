@@ -12,8 +12,8 @@ pub(crate) struct Undo<'a> {
 
 impl Drop for Undo<'_> {
     fn drop(self)
-        ensures sheet_value { self.exit.0.now.sheet ≡ self.entry.sheet }
-        ensures stack_value { self.exit.0.now.stack ≡ self.entry.stack }
+        ensures sheet { self.exit.0.now.sheet ≡ self.entry.sheet }
+        ensures stack { self.exit.0.now.stack ≡ self.entry.stack }
     {
         self.marks.sheet = self.sheet;
         self.marks.stack = self.stack;
@@ -39,8 +39,10 @@ impl Undo<'_> {
 }
 
 pub(crate) fn guard<'a>(marks: &'a mut Marks) -> Undo<'a>
-    ensures marks_value { (result.marks.now ≡ marks.old) × ((result.sheet ≡ marks.old.sheet) × (result.stack ≡ marks.old.stack)) }
-    ensures ghost_name_value { result.marks.ghost_name ≡ marks.entry.ghost_name }
+    ensures marks { result.marks.now ≡ marks.old }
+    ensures sheet { result.sheet ≡ marks.old.sheet }
+    ensures stack { result.stack ≡ marks.old.stack }
+    ensures loan { result.marks.ghost_name ≡ marks.entry.ghost_name }
 {
     Undo {
         sheet: marks.sheet,

@@ -6,7 +6,7 @@ use Rattle.elimination.proofs.step.eliminate.Goals as goal
 pub drop_item-undo-requires : goal.drop_item-undo-requires
 drop_item-undo-requires c =
     let b : Words = record { sheet = c.args.sheet.now; stack = c.args.stack.now; marks = c.args.marks.now } in
-    let wrote = wrote_at c.guard-undo.ensures.marks_value.0 c.word_limit-room.ensures b.sheet c.append_all.new.sheet c.args.x c.in-Some.end c.in-Some.ensures.wrote in
+    let wrote = wrote_at c.guard-undo.ensures.marks c.word_limit-room.ensures b.sheet c.append_all.new.sheet c.args.x c.in-Some.end c.in-Some.ensures.wrote in
     let fits = wrote.cases.1.fits in
     let long = c.append_all.auto.sheet in
     record { fits = omega arith; laid = all_laid c.args.x b c.requires.laid c.requires.item c.append_all.new.sheet c.in-Some.end wrote }
@@ -15,7 +15,7 @@ pub returns : goal.returns
 returns c =
     let b : Words = record { sheet = c.args.sheet.now; stack = c.args.stack.now; marks = c.args.marks.now } in
     let cur = c.append_all.new.sheet in
-    let same = c.guard-undo.ensures.marks_value.0 in
+    let same = c.guard-undo.ensures.marks in
     let wrote = wrote_at same c.word_limit-room.ensures b.sheet cur c.args.x c.in-Some.end c.in-Some.ensures.wrote in
     let pushed = pushed_at same c.word_limit-room-2.ensures b.stack c.push_all.new.stack cur c.args.x c.in-Some-push_all.top c.in-Some-push_all.ensures in
     let dropped = c.drop_item-undo.ensures in
