@@ -1,9 +1,8 @@
 -- Blocked clauses in terms of literals alone, and the record of one at its place. Assumes nothing.
-use Rattle.std.specs.Prelude.{ℕ, Bool, not, ◌&&◌, List, ◌==◌, slice_index}
+use Rattle.std.specs.Prelude.{ℕ, Bool, ◌&&◌, List, slice_index}
 use Rattle.std.specs.List.{between}
 use Rattle.sheet.specs.declared.clause.Tag.TheVariants.{Working}
 use Rattle.sheet.specs.declared.row.Item.{Item}
-use Rattle.sheet.specs.Literals.{opposite, has}
 use Rattle.sheet.specs.Clauses.{Clause}
 use Rattle.sheet.specs.Records.{Record}
 use Rattle.steps.specs.Places.{every}
@@ -11,10 +10,6 @@ use Rattle.steps.specs.Rewriting.{plain_lit}
 use Rattle.steps.specs.Blocking.{blocks}
 use Rattle.places.specs.Asking.{Asked}
 use Rattle.places.specs.declared.Found.{Found}
-
--- y is not the denial, and denies a plain literal of these
-abbrev pub denies : List Item → List ℕ → ℕ → ℕ → Bool
-denies row lits denial y = not (y == denial) && (plain_lit row y && has (opposite y) lits)
 
 -- of a clause with these literals
 unfoldable pub blocks_in : List Item → List ℕ → ℕ → Clause → Bool

@@ -1,36 +1,45 @@
--- Loops that test each of a list. Assumes nothing.
-use Rattle.std.proofs.Common.{◌≡◌, ℕ, ◌<◌, ◌≤◌, true, false, List, [], ◌∷◌, ◌++◌, length, get_or, take, Decides, sym, subst}
-use Rattle.std.specs.List.{AllByRecursion}
-use Rattle.std.proofs.lemmas.List.{take_all}
-use Rattle.std.proofs.ByRecursion.{All-get_or, All-push}
+-- What `all` answers where each call decides of its item. Assumes nothing.
+use Rattle.std.proofs.Common.{◌≡◌, ℕ, ◌<◌, Bool, true, false, List, [], ◌∷◌, ◌++◌, length, reverse, Decides, MatchBool, MatchOption, Option, refl, ap, ◌∙◌, subst, arith}
+use denote.Param.Members.{Mut}
+use Rattle.std.specs.Fn.{Called}
+use Rattle.std.specs.Iterator.{YieldsLastBy, YieldsThen}
+use Rattle.std.specs.List.{AllByRecursion, AllWithin, FoldsTo, HoldsAt}
+use Rattle.std.proofs.ByRecursion.{All-push}
+use Rattle.std.proofs.lemmas.Bool.{false≢true}
+use Rattle.std.proofs.lemmas.Bool.Decides.{Decides-like}
+use Rattle.std.proofs.lemmas.Iterator.{YieldsList, cases_from_all}
+use Rattle.std.proofs.lemmas.Iterator.Consumers.{YieldsList-from_shown}
+use Rattle.std.proofs.lemmas.List.{reverse-append, reverse-reverse}
+use Rattle.std.proofs.lemmas.List.Elements.{All-from_recursion, recursion_from_All}
 use Rattle.sheet.proofs.Deciding.{accepts, refuses}
 
 pub all_parts : {X : Type 0} (P : X → Type 0) (xs ys : List X) → AllByRecursion P (xs ++ ys) → AllByRecursion P xs × AllByRecursion P ys
 all_parts P [] ys h = (tt, h)
 all_parts P (x ∷ xs) ys h = let p = all_parts P xs ys h.1 in ((h.0, p.0), p.1)
 
--- a loop over a slice has come to its i-th
-module _ {X : Type 0} (P : X → Type 0) (xs : List X) (i : ℕ) where
-  pub refuses_all : (d : X) → i < length xs → (P (get_or xs i d) → ⊥) → Decides false (AllByRecursion P xs)
-  refuses_all d inside fails = refuses (λ h. fails (All-get_or P xs i d inside h))
+module _ {X : Type 0} (P : X → Type 0) where
+  decided : (r : Bool) (xs : List X) → MatchBool r (AllWithin P xs 0 (length xs)) ((k : ℕ) × (k < length xs) × HoldsAt (λ x. P x → ⊥) xs k) → Decides r (AllByRecursion P xs)
+  decided true xs h = accepts (recursion_from_All P xs (λ k d inside. h k d (omega arith) inside))
+  decided false [] h = absurd (omega (arith, h.1))
+  decided false (x ∷ xs) h = refuses (λ all. h.2 x (All-from_recursion P (x ∷ xs) all h.0 x h.1))
 
-  pub accepts_all : length xs ≤ i → AllByRecursion P (take i xs) → Decides true (AllByRecursion P xs)
-  accepts_all end h = accepts (subst (AllByRecursion P) (take_all i xs end) h)
+  turned : (xs : List X) → AllByRecursion P xs → AllByRecursion P (reverse xs)
+  turned [] h = tt
+  turned (x ∷ xs) h = rw (reverse-append (x ∷ []) xs) (All-push P (reverse xs) x (turned xs h.1) h.0)
 
--- all pass where the rest does
-abbrev pub Rests : {X : Type 0} → (X → Type 0) → List X → List X → Type 0
-Rests P all rest = (AllByRecursion P rest → AllByRecursion P all) × (AllByRecursion P all → AllByRecursion P rest)
+  pub turned_decides : (r : Bool) (xs : List X) → Decides r (AllByRecursion P (reverse xs)) → Decides r (AllByRecursion P xs)
+  turned_decides r xs h = Decides-like r (λ all. rw (reverse-reverse xs) at (turned (reverse xs) all)) (turned xs) h
 
-pub accepts_rest : {X : Type 0} (P : X → Type 0) (all rest : List X) → Rests P all rest → rest ≡ [] → Decides true (AllByRecursion P all)
-accepts_rest P all rest h end = accepts (h.0 (subst (AllByRecursion P) (sym end) tt))
+pub all_decides : {S A B F : Type 0} {steps : S → Option A → S → Type 0} {v : A → B} {g : Mut F (A × Unit {0}) Bool} {s : S} {all : List B} (P : B → Type 0) (u : S) (f : F) (r : Bool)
+    → (xs : List A) × (o : Option A) × (j : F) × YieldsThen steps s xs o u × FoldsTo (λ p x q. Called g p (x, tt) true q) f xs j × MatchOption o (r ≡ true) (λ x. (r ≡ false) × ((h : F) × Called g j (x, tt) false h))
+    → YieldsList steps v s all → ((x : A) (b : Bool) (q : F) → Called g f (x, tt) b q → (q ≡ f) × Decides b (P (v x))) → Decides r (AllByRecursion P all)
+all_decides P u f r ran road each =
+    decided P r _ (cases_from_all u f r P (λ x. P x → ⊥) ran road
+    (λ x q called. let d = each x true q called in (d.0, d.1.0 refl))
+    (λ x q called p. false≢true ((each x false q called).1.1 p)))
 
--- a loop from the end has come to x
-module _ {X : Type 0} (P : X → Type 0) (all xs rest : List X) (x : X) (h : Rests P all xs) (last : xs ≡ rest ++ x ∷ []) where
-  parts : AllByRecursion P all → AllByRecursion P rest × AllByRecursion P (x ∷ [])
-  parts a = all_parts P rest (x ∷ []) (subst (AllByRecursion P) last (h.1 a))
-
-  pub rests_back : P x → Rests P all rest
-  rests_back p = (λ r. h.0 (subst (AllByRecursion P) (sym last) (All-push P rest x r p)), λ a. (parts a).0)
-
-  pub refuses_back : (P x → ⊥) → Decides false (AllByRecursion P all)
-  refuses_back fails = refuses (λ a. fails (parts a).1.0)
+-- an iterator that yields from the back
+pub YieldsList-from_last : {S A B : Type 0} (v : A → B) (rest : S → List B) {s : S} (xs : List B) → rest s ≡ xs → YieldsList (YieldsLastBy v rest) v s (reverse xs)
+YieldsList-from_last v rest {s} xs e =
+    subst (λ ys. YieldsList (YieldsLastBy v rest) v s (reverse ys)) e
+    (YieldsList-from_shown (YieldsLastBy v rest) v (λ t. reverse (rest t)) (λ t u h. ap (λ ys. length (reverse ys)) h.0) (λ t x u h. ap reverse h ∙ reverse-append (rest u) (v x ∷ [])) s)

@@ -1,8 +1,8 @@
 -- A table of the ordinals that were seen. Assumes nothing.
-use Rattle.std.specs.Prelude.{◌≡◌, ℕ, Bool, false, List, length, slice_index_or}
+use Rattle.std.specs.Prelude.{◌≡◌, ℕ, false, List, slice_index_or}
 use Rattle.sheet.specs.Literals.{has}
+use Rattle.checking.specs.declared.seen.Seen.{Seen}
 
--- a place for each ordinal, marked for those of ns
-pub record Noted (seen : List Bool) (ns : List ℕ) : Type 0 where
-  pub places : length seen ≡ 65536
-  pub marks : (n : ℕ) → slice_index_or seen n false ≡ has n ns
+-- marked for the ordinals of ns
+abbrev pub Noted : Seen → List ℕ → Type 0
+Noted seen ns = (n : ℕ) → slice_index_or seen.table n false ≡ has n ns

@@ -1,14 +1,15 @@
 // Whether the clauses of the sheet are as the phase, the row and the counts ask.
-ghost use Rattle.std.specs.Prelude.{◌≡◌, ◌<◌, ◌≤◌, length, take, Decides};
+ghost use Rattle.std.specs.Prelude.{◌≡◌, ◌<◌, Decides};
 ghost use Rattle.std.specs.List.{AllByRecursion};
-ghost use Rattle.sheet.specs.Clauses.{Laid, clauses, ordinal_of};
-ghost use Rattle.sheet.specs.ClauseSteps.{placed};
+ghost use Rattle.sheet.specs.Clauses.{ordinal_of};
+ghost use Rattle.sheet.specs.Views.{clause_seen};
 ghost use Rattle.sheet.specs.Together.{of_phase};
 ghost use Rattle.checking.specs.Standing.{ClauseStands};
 
 use crate::literals::all_stand;
 use sheet::buffers::{Counts, Phase};
-use sheet::clause::{Place, Tag, read};
+use sheet::clause::Tag;
+use sheet::clauses::{ClauseRef, Clauses};
 use sheet::row::Item;
 
 fn of_phase(phase: Phase, tag: Tag) -> bool
@@ -30,35 +31,24 @@ fn in_range(softs: usize, tag: Tag) -> bool
     }
 }
 
-fn clause_stands(phase: Phase, counts: Counts, row: &[Item], sheet: &[u16], place: Place) -> bool
-    requires order { place.from ≤ place.to }
-    requires fits { place.to ≤ length sheet.now }
-    ensures { Decides result (ClauseStands phase counts.items counts.softs row.now (placed sheet.now place)) }
+// Each function takes what it reads of the phase, the counts and the row: all the buffers together would bring the weights down to the literals.
+fn clause_stands(phase: Phase, counts: Counts, row: &[Item], clause: ClauseRef<'_>) -> bool
+    ensures { Decides result (ClauseStands phase counts.items counts.softs row.now (clause_seen clause.entry)) }
 {
-    let Place { tag, from, to, .. } = place;
-    of_phase(phase, tag)
-        && in_range(counts.softs, tag)
-        && all_stand(phase, counts.items, row, &sheet[from..to])
+    of_phase(phase, clause.tag)
+        && in_range(counts.softs, clause.tag)
+        && all_stand(phase, counts.items, row, clause.lits)
 }
 
 pub(crate) fn clauses_stand(
     phase: Phase,
     counts: Counts,
     row: &[Item],
-    sheet: &[u16],
-    fill: usize,
+    clauses: &Clauses<'_>,
 ) -> bool
-    requires fits { fill ≤ length sheet.now }
-    requires laid { Laid (take fill sheet.now) }
-    ensures { Decides result (AllByRecursion (ClauseStands phase counts.items counts.softs row.now) (clauses (take fill sheet.now))) }
+    ensures { Decides result (AllByRecursion (ClauseStands phase counts.items counts.softs row.now) clauses.now) }
 {
-    let mut at = 0;
-    while at < fill {
-        let place = read(sheet, fill, at);
-        if !clause_stands(phase, counts, row, sheet, place) {
-            return false;
-        }
-        at = place.end;
-    }
-    true
+    clauses
+        .iter()
+        .all(|clause| clause_stands(phase, counts, row, clause))
 }

@@ -6,26 +6,20 @@ ghost use Rattle.sheet.specs.Together.{Stands};
 ghost use Rattle.checking.specs.Standing.{allowed};
 
 use sheet::buffers::Phase;
-use sheet::literal::SIGN;
+use sheet::literal::{is_denied, item};
 use sheet::row::{Item, Standing};
 
 // Whether a word names one of the items.
 fn is_literal(items: usize, w: u16) -> bool
     ensures { Decides result (Literal items w) }
 {
-    let item = usize::from(w % SIGN);
-    1 <= item && item <= items
+    (1..=items).contains(&item(w))
 }
 
 pub(crate) fn all_literals(items: usize, lits: &[u16]) -> bool
     ensures { Decides result (AllByRecursion (Literal items) lits.now) }
 {
-    for w in lits {
-        if !is_literal(items, *w) {
-            return false;
-        }
-    }
-    true
+    lits.iter().all(|w| is_literal(items, *w))
 }
 
 // Whether a clause may hold the literal `w` of an item with this standing.
@@ -36,7 +30,7 @@ fn allows(phase: Phase, standing: Standing, w: u16) -> bool
         Standing::Plain => true,
         Standing::Label => match phase {
             Phase::Gathering => true,
-            Phase::Working => w < SIGN,
+            Phase::Working => !is_denied(w),
         },
         Standing::Fixed | Standing::Covered | Standing::Forced => false,
     }
@@ -49,17 +43,12 @@ fn stands(phase: Phase, items: usize, row: &[Item], w: u16) -> bool
     if !is_literal(items, w) {
         return false;
     }
-    let item = usize::from(w % SIGN);
+    let item = item(w);
     item > row.len() || allows(phase, row[item - 1].standing, w)
 }
 
 pub(crate) fn all_stand(phase: Phase, items: usize, row: &[Item], lits: &[u16]) -> bool
     ensures { Decides result (AllByRecursion (Stands phase items row.now) lits.now) }
 {
-    for w in lits {
-        if !stands(phase, items, row, *w) {
-            return false;
-        }
-    }
-    true
+    lits.iter().all(|w| stands(phase, items, row, *w))
 }

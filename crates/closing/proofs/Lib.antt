@@ -2,8 +2,7 @@ pub mod Labels
 pub mod Insertions
 pub mod Namings
 pub mod Tables
-pub mod Shifts
 pub mod Cursors
 pub mod Rewrites
 pub mod Passes
-pub mod Compactions
+pub mod Sizes

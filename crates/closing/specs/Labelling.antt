@@ -31,10 +31,9 @@ not_soft c = not (if_soft c.tag true)
 abbrev pub without_softs : List Clause → List Clause
 without_softs cs = filter not_soft cs
 
--- how many softs of `cs` want a fresh label
-abbrev pub fresh_labels : List Clause → List Clause → ℕ
-fresh_labels all [] = 0
-fresh_labels all (c ∷ cs) = cond (if_soft c.tag (not (lends_item all c.lits))) (suc (fresh_labels all cs)) (fresh_labels all cs)
+-- a soft that does not lend its item wants a fresh one as its label
+abbrev pub wants_fresh : List Clause → Clause → Bool
+wants_fresh all c = if_soft c.tag (not (lends_item all c.lits))
 
 -- how long a row of `items` gets with the labels of the clauses
 abbrev pub Needed : List Clause → ℕ → ℕ → Type 0

@@ -1,5 +1,5 @@
 -- The tables of group detection. Assumes nothing.
-use Rattle.std.specs.Prelude.{◌≡◌, ℕ, suc, ◌+◌, ◌<◌, ◌≤◌, min, Bool, false, cond, ◌||◌, List, [], ◌∷◌, ◌==◌, slice_index, slice_index_or}
+use Rattle.std.specs.Prelude.{◌≡◌, ℕ, suc, ◌+◌, ◌<◌, min, Bool, false, cond, ◌||◌, List, [], ◌∷◌, ◌==◌, slice_index, slice_index_or}
 use Rattle.sheet.specs.Literals.{item_of}
 use Rattle.sheet.specs.Clauses.{Clause}
 use Rattle.meaning.specs.Calls.{softs_naming, in_hard}
@@ -11,9 +11,6 @@ namings i [] = 0
 namings i (w ∷ ws) = cond (i == item_of w) (suc (namings i ws)) (namings i ws)
 
 -- A table of counts that stop at 2, and one of notes, each before and after more is told of the items.
-
-abbrev pub Capped : List ℕ → Type 0
-Capped naming = (i : ℕ) → i < 2001 → slice_index naming i ≤ 2
 
 abbrev pub Counted : List ℕ → List ℕ → (ℕ → ℕ) → Type 0
 Counted before after more = (i : ℕ) → i < 2001 → slice_index after i ≡ min 2 (slice_index before i + more i)

@@ -22,7 +22,8 @@ pub struct Closed {
     pub items: usize,
 }
 
-// Closes the clauses of the first `fill` words in place, with the labels in a row of `items`.
+// Closes the clauses of the first `fill` words in place, with the labels in a row of `items`. It writes both, so it takes the buffers and
+// how far they are in use.
 pub fn close(
     sheet: &mut [u16],
     fill: usize,

@@ -1,15 +1,10 @@
 // Group detection. One pass over the gathered clauses tells what they say of each item, and that decides which softs
 // lend their item as their label.
-ghost use Rattle.std.specs.Prelude.{◌≡◌, ◌+◌, ◌≤◌, List, [], ◌∷◌, length, take, ◌==◌};
-ghost use Rattle.closing.specs.Labelling.{Needed, Ranged, clause_of, fresh_labels};
-ghost use Rattle.closing.specs.Surveys.{Capped, Counted, Noted, Surveys, namings};
-ghost use Rattle.meaning.specs.Calls.{in_hard, lends_item, softs_naming};
-ghost use Rattle.sheet.specs.Clauses.{Clause, Laid, clauses};
-ghost use Rattle.sheet.specs.Literals.{Literal, Normal, has};
-ghost use Rattle.std.specs.List.{AllByRecursion};
+ghost use Rattle.std.specs.Prelude.{ℕ, ◌<◌, ◌≤◌, slice_index};
 
-use sheet::clause::{Place, Tag, read};
-use sheet::literal::SIGN;
+use sheet::clause::Tag;
+use sheet::clauses::{ClauseRef, Clauses};
+use sheet::literal::{is_denied, item};
 
 // A place for each item: there are at most 2,000, numbered from 1.
 const PLACES: usize = 2001;
@@ -21,26 +16,28 @@ pub struct Survey {
     naming: [u8; PLACES],
     // whether a hard clause denies it
     denials: [bool; PLACES],
+    ghost capped: { (i : ℕ) → i < 2001 → slice_index naming i ≤ 2 },
 }
 
-// Whether a count of softs is that of a single one.
-fn is_alone(count: u8) -> bool
-    ensures { result ≡ (count == 1) }
-{
-    count == 1
-}
-
+// Whoever reads literals asks that they name items up to 2,000: a type for such lists would be made for one call and opened in it.
 impl Survey {
+    ghost use Rattle.std.specs.Prelude.{◌≡◌, ◌+◌, List, [], ◌∷◌, length};
+    ghost use Rattle.closing.specs.Labelling.{Needed, Ranged, wants_fresh};
+    ghost use Rattle.closing.specs.Surveys.{Counted, Noted, Surveys, namings};
+    ghost use Rattle.meaning.specs.Calls.{in_hard, lends_item, softs_naming};
+    ghost use Rattle.sheet.specs.Clauses.{Clause};
+    ghost use Rattle.sheet.specs.Literals.{Literal, Normal, has};
+    ghost use Rattle.sheet.specs.Views.{clause_seen};
+    ghost use Rattle.std.specs.List.{AllByRecursion};
+
     // Counts a soft at each item that it names.
     fn note_soft(&mut self, lits: &[u16])
-        requires literals { AllByRecursion (Literal 2000) lits.now }
-        requires capped { Capped self.old.naming }
+        requires { AllByRecursion (Literal 2000) lits.now }
         ensures naming { Counted self.old.naming self.new.naming (λ i. namings i lits.now) }
-        ensures capped { Capped self.new.naming }
         ensures denials { self.new.denials ≡ self.old.denials }
     {
         for w in lits {
-            let count = &mut self.naming[(*w % SIGN) as usize];
+            let count = &mut self.naming[item(*w)];
             *count = (*count + 1).min(2);
         }
     }
@@ -52,41 +49,35 @@ impl Survey {
         ensures denials { Noted self.old.denials self.new.denials (λ i. has (i + 32768) lits.now) }
     {
         for w in lits {
-            self.denials[(*w % SIGN) as usize] |= *w >= SIGN;
+            self.denials[item(*w)] |= is_denied(*w);
         }
     }
 
-    fn note(&mut self, tag: Tag, lits: &[u16])
-        requires literals { AllByRecursion (Literal 2000) lits.now }
-        requires normal { Normal lits.now }
-        requires capped { Capped self.old.naming }
-        ensures naming { Counted self.old.naming self.new.naming (λ i. softs_naming i (clause_of tag lits.now ∷ [])) }
-        ensures capped { Capped self.new.naming }
-        ensures denials { Noted self.old.denials self.new.denials (λ i. in_hard (i + 32768) (clause_of tag lits.now ∷ [])) }
+    #[tactic(auto, using(crate::proofs::Namings::namings_normal))]
+    fn note(&mut self, clause: ClauseRef<'_>)
+        requires literals { AllByRecursion (Literal 2000) clause.lits.now }
+        requires normal { Normal clause.lits.now }
+        ensures naming { Counted self.old.naming self.new.naming (λ i. softs_naming i (clause_seen clause.entry ∷ [])) }
+        ensures denials { Noted self.old.denials self.new.denials (λ i. in_hard (i + 32768) (clause_seen clause.entry ∷ [])) }
     {
-        match tag {
-            Tag::Hard => self.note_hard(lits),
-            Tag::Soft(_) => self.note_soft(lits),
+        match clause.tag {
+            Tag::Hard => self.note_hard(clause.lits),
+            Tag::Soft(_) => self.note_soft(clause.lits),
             Tag::Working => {}
         }
     }
 
-    // What the first `fill` words of a sheet say of the items.
-    pub fn of(sheet: &[u16], fill: usize) -> Self
-        requires fits { fill ≤ length sheet.now }
-        requires laid { Laid (take fill sheet.now) }
-        requires ranged { Ranged 2000 (clauses (take fill sheet.now)) }
-        ensures { Surveys (clauses (take fill sheet.now)) result }
+    // What the clauses of a gathered sheet say of the items.
+    pub fn of(clauses: &Clauses<'_>) -> Self
+        requires ranged { Ranged 2000 clauses.now }
+        ensures { Surveys clauses.now result }
     {
         let mut survey = Survey {
             naming: [0; PLACES],
             denials: [false; PLACES],
         };
-        let mut at = 0;
-        while at < fill {
-            let Place { tag, from, to, end } = read(sheet, fill, at);
-            survey.note(tag, &sheet[from..to]);
-            at = end;
+        for clause in clauses.iter() {
+            survey.note(clause);
         }
         survey
     }
@@ -97,42 +88,33 @@ impl Survey {
         ensures { (all : List Clause) → Surveys all self.now → result ≡ lends_item all lits.now }
     {
         match lits {
-            [only] => {
-                let item = (*only % SIGN) as usize;
-                *only >= SIGN && is_alone(self.naming[item]) && !self.denials[item]
-            }
+            [only] => is_denied(*only)
+                && self.naming[item(*only)] == 1
+                && !self.denials[item(*only)],
             _ => false,
         }
     }
 
-    // How many items a clause's label adds: a soft that does not lend its item wants a fresh one.
-    fn fresh_items(&self, tag: Tag, lits: &[u16]) -> usize
-        requires { AllByRecursion (Literal 2000) lits.now }
-        ensures { (all : List Clause) → Surveys all self.now → result ≡ fresh_labels all (clause_of tag lits.now ∷ []) }
+    // Whether a clause is a soft that does not lend its item, and so wants a fresh one as its label.
+    fn wants_fresh(&self, clause: &ClauseRef<'_>) -> bool
+        requires { AllByRecursion (Literal 2000) clause.now.lits.now }
+        ensures { (all : List Clause) → Surveys all self.now → result ≡ wants_fresh all (clause_seen clause.now) }
     {
-        match tag {
-            Tag::Soft(_) if !self.lends(lits) => 1,
-            _ => 0,
-        }
+        matches!(clause.tag, Tag::Soft(_)) && !self.lends(clause.lits)
     }
 
-    // How long a row of `items` gets with the labels of the first `fill` words.
-    pub fn items_needed(&self, sheet: &[u16], fill: usize, items: usize) -> usize
-        requires fits { fill ≤ length sheet.now }
-        requires bound { fill ≤ 32768 }
-        requires laid { Laid (take fill sheet.now) }
+    // How long a row of `items` gets with the labels of the clauses.
+    pub fn items_needed(&self, clauses: &Clauses<'_>, items: usize) -> usize
+        requires bound { length clauses.now ≤ 32768 }
         requires few { items ≤ 2000 }
-        requires ranged { Ranged 2000 (clauses (take fill sheet.now)) }
-        requires surveyed { Surveys (clauses (take fill sheet.now)) self.now }
-        ensures { Needed (clauses (take fill sheet.now)) items result }
+        requires ranged { Ranged 2000 clauses.now }
+        requires surveyed { Surveys clauses.now self.now }
+        ensures { Needed clauses.now items result }
     {
-        let mut needed = items;
-        let mut at = 0;
-        while at < fill {
-            let Place { tag, from, to, end } = read(sheet, fill, at);
-            needed += self.fresh_items(tag, &sheet[from..to]);
-            at = end;
-        }
-        needed
+        let fresh = clauses
+            .iter()
+            .filter(|clause| self.wants_fresh(clause))
+            .count();
+        items + fresh
     }
 }

@@ -1,7 +1,8 @@
 -- A search by a counter for the lowest item that passes a test. Assumes nothing.
-use Rattle.std.proofs.Common.{◌≡◌, ℕ, suc, ◌+◌, ◌-◌, ◌<◌, ◌≤◌, Bool, true, false, cond, Some, None, sym, ap, ◌∙◌, add-one, arith}
+use Rattle.std.proofs.Common.{◌≡◌, ℕ, suc, ◌+◌, ◌-◌, ◌<◌, ◌≤◌, Bool, true, false, cond, ◌&&◌, List, [], ◌∷◌, Some, None, sym, refl, ap, ◌∙◌, add-one, arith}
+use Rattle.std.specs.List.{list_all}
 use Rattle.std.proofs.lemmas.Bool.{cond-true, cond-false}
-use Rattle.steps.specs.Places.{lowest_item}
+use Rattle.steps.specs.Places.{every, lowest_item}
 
 module _ (test : ℕ → Bool) (end i : ℕ) where
   -- the items from i up to `end` are left
@@ -19,3 +20,8 @@ module _ (test : ℕ → Bool) (end i : ℕ) where
 
     pub lowest_more : test i ≡ false → lowest_item test (i + 1) (end - (i + 1)) ≡ lowest_item test i (end - i)
     lowest_more fails = sym (split ∙ cond-false (test i) _ _ fails)
+
+-- `all`, by the definition here
+pub every_is_all : {X : Type 0} (test : X → Bool) (xs : List X) → list_all test xs ≡ every test xs
+every_is_all test [] = refl
+every_is_all test (x ∷ xs) = ap (λ b. test x && b) (every_is_all test xs)

@@ -1,13 +1,8 @@
-pub mod Mixing
 pub mod Appending
+pub mod Mixing
 pub mod Pairing
-pub mod Compactions
 pub mod Items
-pub mod Merging
 pub mod Clashing
-pub mod Enclosed
-pub mod Walking
-pub mod Recording
-pub mod Laying
 pub mod Eliminables
 pub mod Turns
+pub mod Laying

@@ -1,12 +1,16 @@
 -- One elimination over lent words: what it asks, and what it makes or leaves. Assumes nothing.
-use Rattle.std.specs.Prelude.{◌≡◌, ℕ, ◌+◌, min, Bool, true, false, ◌&&◌, List, ◌++◌, length, take, filter, nat_le}
+use Rattle.std.specs.Prelude.{◌≡◌, ℕ, ◌+◌, min, Bool, true, false, ◌&&◌, List, ◌++◌, length, take, filter, Option, nat_le}
 use Rattle.std.specs.List.{AllByRecursion}
 use Rattle.sheet.specs.declared.buffers.Marks.{Marks}
 use Rattle.sheet.specs.Clauses.{Clause, Laid, Valid, clauses, encode}
 use Rattle.sheet.specs.Records.{Stacked, ValidRecord, records, encode_stack}
-use Rattle.sheet.specs.Sheets.{Fits}
-use Rattle.steps.specs.Places.{every}
-use Rattle.steps.specs.Elimination.{resolvents, lacks_both, elimination_records, is_counted}
+use Rattle.sheet.specs.Sheets.{Fits, Lent, used_clauses, used_row}
+use Rattle.steps.specs.Places.{every, lowest_item, nameable}
+use Rattle.steps.specs.Elimination.{may_go, resolvents, lacks_both, elimination_records, is_counted}
+
+-- the lowest item that may go
+abbrev pub lowest_to_go : {W : Type 0} → Lent W → Option ℕ
+lowest_to_go b = lowest_item (may_go (used_row b) (used_clauses b)) 1 (nameable (length (used_row b)))
 
 -- the resolvents follow the layout where a header can count them, and have the item no more; and so do the records
 pub record Eliminable (x : ℕ) (cs : List Clause) : Type 0 where

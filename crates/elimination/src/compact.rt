@@ -4,9 +4,8 @@ ghost use Rattle.sheet.specs.Clauses.{Laid, clauses};
 ghost use Rattle.sheet.specs.declared.clause.Tag.TheVariants.{Working};
 ghost use Rattle.steps.specs.Elimination.{lacks_both};
 
-use sheet::clause::{Place, read};
+use sheet::clauses::retain;
 use sheet::literal::{has_literal, opposite};
-use sheet::words::slide;
 
 fn is_apart(lits: &[u16], x: u16) -> bool
     ensures { result ≡ lacks_both x (record { tag = Working; lits = lits.now }) }
@@ -14,7 +13,7 @@ fn is_apart(lits: &[u16], x: u16) -> bool
     !(has_literal(lits, x) || has_literal(lits, opposite(x)))
 }
 
-// Removes the clauses of item `x` from the first `fill` words, and answers the new fill.
+// Removes the clauses of item `x` from the first `fill` words, which it writes to, and answers the new fill.
 pub(crate) fn drop_item(sheet: &mut [u16], fill: usize, x: u16) -> usize
     requires fits { fill ≤ length sheet.old }
     requires laid { Laid (take fill sheet.old) }
@@ -22,14 +21,5 @@ pub(crate) fn drop_item(sheet: &mut [u16], fill: usize, x: u16) -> usize
     ensures laid { Laid (take result sheet.new) }
     ensures kept { clauses (take result sheet.new) ≡ filter (lacks_both x) (clauses (take fill sheet.old)) }
 {
-    let mut out = 0;
-    let mut at = 0;
-    while at < fill {
-        let Place { from, to, end, .. } = read(sheet, fill, at);
-        if is_apart(&sheet[from..to], x) {
-            out = slide(sheet, out, at, end);
-        }
-        at = end;
-    }
-    out
+    retain(sheet, fill, |_, lits| is_apart(lits, x))
 }

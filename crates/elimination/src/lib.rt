@@ -3,17 +3,23 @@
 // other, and the clauses recorded with the item as witness tell which. Only items go whose resolvents are no more than their clauses.
 #![tactic(auto)]
 
-ghost use Rattle.steps.specs.Elimination.{EliminationRuns};
+ghost use Rattle.std.specs.Prelude.{◌≡◌, ◌≤◌, [], length, Some};
+ghost use Rattle.elimination.specs.Eliminating.{lowest_to_go};
+ghost use Rattle.sheet.specs.declared.row.Standing.TheVariants.{Fixed};
+ghost use Rattle.steps.specs.Elimination.{EliminationRuns, elimination, elimination_fits, first_to_go};
+ghost use Rattle.steps.specs.Rewriting.{retired};
+ghost use Rattle.steps.proofs.Eliminated.{elimination_keeps};
 
 use crate::find::first_to_go;
-use crate::step::{eliminate, fix};
-use checking::holds_together;
+use crate::step::eliminate;
 use marking::Marked;
-use meaning::report::{Ending, Report};
+use meaning::report::Report;
+use rewriting::retire;
 use rules::rule::Rule;
-use sheet::buffers::{Counts, Marks, Phase};
+use rules::technique::{Technique, repeat};
+use sheet::buffers::Desk;
 use sheet::refusal::Refusal;
-use sheet::row::Item;
+use sheet::row::{Item, Standing};
 use weight::Weight;
 
 mod append;
@@ -25,51 +31,57 @@ mod records;
 mod step;
 mod undo;
 
+// The item is fixed: it stands in no clause any more.
+fn fix(row: &mut [Item], x: u16)
+    requires low { 1 ≤ x }
+    requires high { x ≤ length row.old }
+    ensures { row.new ≡ retired row.old x Fixed }
+{
+    retire(row, usize::from(x), Standing::Fixed);
+}
+
+// One step after another, with one table, in which nothing is marked between the steps.
+#[derive(Drop)]
+struct Search {
+    marked: Marked,
+}
+
+impl<W: Weight> Technique<W> for Search {
+    type Place = u16;
+
+    ghost step = { λ V k. elimination };
+
+    ghost fits = { λ V k room t. elimination_fits room t (first_to_go t) };
+
+    ghost ready = { λ s b. s.marked ≡ [] };
+
+    ghost found = { λ s b x. (s.marked ≡ []) × (lowest_to_go b ≡ Some x) };
+
+    ghost keeps = { elimination_keeps W.Weight.lawful };
+
+    fn find(&mut self, desk: &Desk<'_, W>) -> Option<u16> {
+        first_to_go(desk.buffers(), &mut self.marked)
+    }
+
+    fn make(&mut self, desk: &mut Desk<'_, W>, x: u16) -> bool {
+        if !eliminate(desk.sheet, desk.stack, &mut desk.marks, x, &mut self.marked) {
+            return false;
+        }
+        fix(desk.row, x);
+        true
+    }
+}
+
 #[derive(Clone, Copy)]
 pub struct Elimination {}
 
 impl<W: Weight> Rule<W> for Elimination {
     ghost runs = { λ r V k room. EliminationRuns room };
 
-    fn run(
-        &self,
-        sheet: &mut [u16],
-        row: &mut [Item],
-        stack: &mut [u16],
-        weights: &[W],
-        marks: &mut Marks,
-        counts: Counts,
-        limit: u64,
-    ) -> Result<Report, Refusal> {
-        if let Some(part) = holds_together(
-            Phase::Working,
-            sheet,
-            row,
-            stack,
-            weights,
-            *marks,
-            counts,
-        ) {
-            return Err(Refusal::NotTogether(part));
-        }
-        let mut marked = Marked::none();
-        let mut steps = 0;
-        loop {
-            let items = counts.items;
-            let Some(x) = first_to_go(sheet, marks.sheet, &row[..items], &mut marked) else {
-                let ending = Ending::Done;
-                return Ok(Report { steps, ending });
-            };
-            if steps == limit {
-                let ending = Ending::Limit;
-                return Ok(Report { steps, ending });
-            }
-            if !eliminate(sheet, stack, marks, x, &mut marked) {
-                let ending = Ending::Full;
-                return Ok(Report { steps, ending });
-            }
-            fix(row, x);
-            steps += 1;
-        }
+    fn run(&self, desk: &mut Desk<'_, W>, limit: u64) -> Result<Report, Refusal> {
+        let mut search = Search {
+            marked: Marked::none(),
+        };
+        repeat(&mut search, desk, limit)
     }
 }

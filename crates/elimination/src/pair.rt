@@ -1,8 +1,7 @@
 // Which clauses resolve on an item. The literals of the clause that has the item are marked, so each clause that denies it is looked at in
 // one pass over its own literals.
-ghost use Rattle.std.specs.Prelude.{◌≡◌, ℕ, ◌&&◌, List};
+ghost use Rattle.std.specs.Prelude.{◌≡◌};
 ghost use Rattle.elimination.specs.Resolving.{working, pairs_with};
-ghost use Rattle.marking.specs.Marks.{MarksOf};
 ghost use Rattle.steps.specs.Elimination.{clashes_at};
 ghost use Rattle.steps.specs.Places.{some as some_word};
 
@@ -11,20 +10,14 @@ use sheet::literal::{has_literal, opposite};
 
 // Whether `d` denies a literal of the marked clause other than `x`.
 fn clashes(marked: &Marked, d: &[u16], x: u16) -> bool
-    ensures { (c : List ℕ) → MarksOf marked.now.table c → result ≡ some_word (clashes_at x (working d.now)) c }
+    ensures { result ≡ some_word (clashes_at x (working d.now)) marked.now }
 {
-    let y = opposite(x);
-    for w in d {
-        if *w != y && marked.has(opposite(*w)) {
-            return true;
-        }
-    }
-    false
+    d.iter().any(|w| marked.other_denied(x, *w))
 }
 
 // Whether `d` denies `x` and has with the marked clause a resolvent on it that is no tautology.
 pub(crate) fn resolves(marked: &Marked, d: &[u16], x: u16) -> bool
-    ensures { (c : List ℕ) → MarksOf marked.now.table c → result ≡ pairs_with x (working c) (working d.now) }
+    ensures { result ≡ pairs_with x (working marked.now) (working d.now) }
 {
     has_literal(d, opposite(x)) && !clashes(marked, d, x)
 }

@@ -2,15 +2,14 @@
 ghost use Rattle.std.specs.Prelude.{◌≡◌, ◌+◌, ◌<◌, ◌≤◌, ◌++◌, length, take};
 ghost use Rattle.elimination.specs.Resolving.{working};
 ghost use Rattle.elimination.specs.Writing.{Wrote};
-ghost use Rattle.sheet.specs.Clauses.{Laid, clauses};
 ghost use Rattle.sheet.specs.Records.{encode_stack, record_words};
 ghost use Rattle.steps.specs.Elimination.{elimination_record, elimination_records};
 
-use sheet::clause::{Place, read};
+use sheet::clauses::Clauses;
 use sheet::literal::has_literal;
 use sheet::record::push;
 
-// The code of a record that makes its witness true where its clause is unmet.
+// The code of an elimination's record. No enum: the layout takes any code from 1 to 15, and `push` as well.
 const REPAIR: u16 = 1;
 
 fn push_clause(stack: &mut [u16], fill: usize, lits: &[u16], x: u16) -> usize
@@ -22,32 +21,19 @@ fn push_clause(stack: &mut [u16], fill: usize, lits: &[u16], x: u16) -> usize
     push(stack, fill, REPAIR, lits, x)
 }
 
-// Records the clauses with `x` behind the first `mark` words of the stack. Answers where they end, or None where that passes `limit`.
-pub(crate) fn push_all(
-    stack: &mut [u16],
-    mark: usize,
-    limit: usize,
-    sheet: &[u16],
-    fill: usize,
-    x: u16,
-) -> Option<usize>
-    requires free { (mark ≤ limit) × (limit ≤ length stack.old) }
-    requires fits { fill ≤ length sheet.now }
-    requires laid { Laid (take fill sheet.now) }
-    ensures { Wrote stack.old stack.new mark limit (encode_stack (elimination_records x (clauses (take fill sheet.now)))) result }
+// Records the clauses with `x` in free words. Answers how many words they take, or None where they do not fit.
+pub(crate) fn push_all(clauses: &Clauses<'_>, x: u16, free: &mut [u16]) -> Option<usize>
+    ensures { Wrote free.old free.new (encode_stack (elimination_records x clauses.now)) result }
 {
-    let mut n = mark;
-    let mut at = 0;
-    while at < fill {
-        let Place { from, to, end, .. } = read(sheet, fill, at);
-        let lits = &sheet[from..to];
+    let mut n = 0;
+    for clause in clauses.iter() {
+        let lits = clause.lits;
         if has_literal(lits, x) {
-            if limit - n < lits.len() + 2 {
+            if free.len() - n < lits.len() + 2 {
                 return None;
             }
-            n = push_clause(stack, n, lits, x);
+            n = push_clause(free, n, lits, x);
         }
-        at = end;
     }
     Some(n)
 }

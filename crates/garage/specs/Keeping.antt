@@ -1,5 +1,6 @@
 -- When a plan keeps a wish. A plan is the bay of each holder. Assumes nothing.
-use Rattle.std.specs.Prelude.{ℕ, suc, ◌+◌, ◌-◌, ◌/◌, ◌%◌, Bool, false, not, ◌&&◌, ◌||◌, List, [], ◌∷◌, ℤ, pos, negsuc, ◌==◌, nat_lt, slice_index}
+use Rattle.std.specs.List.{list_any}
+use Rattle.std.specs.Prelude.{ℕ, suc, ◌+◌, ◌-◌, ◌/◌, ◌%◌, Bool, not, ◌&&◌, List, ℤ, pos, negsuc, ◌==◌, nat_lt, slice_index}
 
 -- Item 4 * h + b, for h from 0 and b from 1 to 4: the holder at h has bay b. No bay is 0, so a holder that is not there has none.
 abbrev pub parked : List ℕ → ℕ → Bool
@@ -12,5 +13,4 @@ agreed bays (negsuc n) = not (parked bays (suc n))
 
 -- one of the literals is true
 abbrev pub kept : List ℕ → List ℤ → Bool
-kept bays [] = false
-kept bays (x ∷ xs) = agreed bays x || kept bays xs
+kept bays literals = list_any (agreed bays) literals

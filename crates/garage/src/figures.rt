@@ -14,6 +14,7 @@ pub type Text = InlineText<80>;
 pub struct Grouped(pub u64);
 
 impl Grouped {
+    // No `From`: a fraction is dropped, and the largest number stands for all beyond it.
     pub fn from_single(figure: f32) -> Grouped
         ensures { result.0 ≡ to_unsigned 64 figure }
     {

@@ -9,13 +9,10 @@ impl Plan {
     fn parks(&self, item: u32) -> bool
         ensures { result ≡ parked self.now.bays item }
     {
-        match item.checked_sub(1) {
-            Some(place) => match self.bays.get(place as usize / 4) {
-                Some(bay) => *bay == place % 4 + 1,
-                None => false,
-            },
-            None => false,
-        }
+        let Some(place) = item.checked_sub(1) else {
+            return false;
+        };
+        self.bays.get(place as usize / 4) == Some(&(place % 4 + 1))
     }
 
     // A literal may be any number: its sign is taken off where even the least one fits.
@@ -29,11 +26,6 @@ impl Plan {
     pub fn keeps(&self, wish: &Wish) -> bool
         ensures { result ≡ kept self.now.bays wish.now.literals.now }
     {
-        for literal in wish.literals {
-            if self.agrees(*literal) {
-                return true;
-            }
-        }
-        false
+        wish.literals.iter().any(|literal| self.agrees(*literal))
     }
 }

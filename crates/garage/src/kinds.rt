@@ -30,6 +30,7 @@ pub trait Weighting: Weight {
     fn without(&self, other: &Self) -> Option<Self>
         ensures { Rest Self.Weight.kind Self.Weight.value (Self.Weight.value self.now) (Self.Weight.value other.now) result };
 
+    // No `Display`: weights are another crate's, and know no grouping of digits.
     fn text(&self) -> Text;
 }
 

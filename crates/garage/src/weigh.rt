@@ -9,12 +9,9 @@ ghost use Rattle.garage.specs.Weighing.{broken, in_order};
 
 use crate::kinds::Weighting;
 use crate::level::{Plan, Wish};
-use anyhow::Context;
 use std::alloc::{AllocError, Global};
 use std::cmp::Ordering;
 use weight::{TooLarge, Weight, total};
-
-pub const TOO_LARGE: &str = "a total passes the ceiling of its kind";
 
 // The weights of the wishes that a plan breaks, in order.
 fn broken_weights<W: Weighting>(
@@ -24,13 +21,11 @@ fn broken_weights<W: Weighting>(
 ) -> Result<Vec<W>, AllocError>
     ensures { IfOk result (λ v. v.items ≡ broken W.Weighting.given plan.now.bays wishes.now) }
 {
-    let mut weights = Vec::new(heap);
-    for wish in wishes {
-        if !plan.keeps(wish) {
-            weights.push(W::of(wish))?;
-        }
-    }
-    Ok(weights)
+    wishes
+        .iter()
+        .filter(|wish| !plan.keeps(wish))
+        .map(|wish| W::of(wish))
+        .collect(heap)
 }
 
 // What a plan pays, exactly.
@@ -38,11 +33,10 @@ pub fn cost<W: Weighting>(heap: Global, plan: &Plan, wishes: &[Wish]) -> anyhow:
     ensures { IfOk result (λ w. W.Weight.value w ≡ total_in W.Weight (broken W.Weighting.given plan.now.bays wishes.now)) }
 {
     let weights = broken_weights::<W>(heap, plan, wishes)?;
-    let cost = total(&weights).ok().context(TOO_LARGE)?;
-    Ok(cost)
+    Ok(total(&weights)?)
 }
 
-// How the first stands to the second.
+// How the first stands to the second. No `Ord`: weights that mean the same may be two values.
 pub fn compare<W: Weight>(x: &W, y: &W) -> Ordering
     ensures { result ≡ in_order W.Weight.kind (W.Weight.value x.now) (W.Weight.value y.now) }
 {

@@ -1,1 +1,2 @@
+pub mod Rising
 pub mod Flags

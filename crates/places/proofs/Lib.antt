@@ -1,4 +1,4 @@
-pub mod Plainness
 pub mod Searching
 pub mod Making
 pub mod Clausewise
+pub mod Alike

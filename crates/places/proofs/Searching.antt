@@ -1,10 +1,10 @@
--- A search over literals, and one over clauses, each by a cursor: what is left of the search is the whole of it. Assumes nothing.
-use Rattle.std.proofs.Common.{◌≡◌, ℕ, ◌+◌, ◌<◌, ◌≤◌, Bool, true, false, List, [], ◌∷◌, ◌++◌, length, get_or, take, drop, Some, None, Option, sym, ap, ◌∙◌, arith}
+-- A search over literals, by the position that it answers, and one over clauses, by a cursor: what is left of the search is the whole of it. Assumes nothing.
+use Rattle.std.proofs.Common.{◌≡◌, ℕ, suc, not, ◌+◌, ◌<◌, ◌≤◌, Bool, true, false, List, [], ◌∷◌, ◌++◌, cond, ltb, refl, length, get_or, take, Some, None, Option, sym, ap, ◌∙◌, arith}
+use Prim.Native.Nat.compare.{suc-suc}
 use Rattle.std.specs.Option.{option_map, option_or}
-use Rattle.std.specs.List.{between}
+use Rattle.std.specs.List.{between, position_or_len}
 use Rattle.std.proofs.lemmas.List.Edits.{get_or-between, length-between}
-use Rattle.std.proofs.lemmas.List.{at_drop_more, at_drop_all}
-use Rattle.std.proofs.lemmas.Bool.{cond-true, cond-false}
+use Rattle.std.proofs.lemmas.Bool.{cond_both, cond-true, cond-false, lt-ltb, ltb-true}
 use Rattle.sheet.specs.declared.clause.Place.{Place}
 use Rattle.sheet.specs.Clauses.{Clause, Laid, clauses}
 use Rattle.sheet.specs.ClauseSteps.{Step, placed}
@@ -14,20 +14,21 @@ use Rattle.sheet.proofs.Laying.{clauses_nil, laid_nil}
 use Rattle.steps.specs.Places.{first_made, first_word}
 use Rattle.places.specs.Spots.{spot, spotted, first_spot, WordFound, SpotAt}
 
--- at the i-th literal
-module _ (test : ℕ → Bool) (ws : List ℕ) (i : ℕ) (left : first_word test (drop i ws) ≡ first_word test ws) where
-  pub word_none : length ws ≤ i → first_word test ws ≡ None
-  word_none past = sym left ∙ at_drop_all (first_word test) ws i past
+-- The first literal that passes, by its position.
 
-  module _ (inside : i < length ws) where
-    here : first_word test (drop i ws) ≡ first_word test (get_or ws i 0 ∷ drop (i + 1) ws)
-    here = at_drop_more (first_word test) ws i 0 inside
+place_of : (test : ℕ → Bool) (ws : List ℕ) → first_word test ws ≡ cond (ltb (position_or_len test ws) (length ws)) (Some (get_or ws (position_or_len test ws) 0)) None
+place_of test [] = refl
+place_of test (w ∷ ws) = one (test w) (position_or_len test ws) (place_of test ws)
+  where
+    one : (passes : Bool) (p : ℕ) {rest : Option ℕ} → rest ≡ cond (ltb p (length ws)) (Some (get_or ws p 0)) None
+        → cond passes (Some w) rest ≡ cond (ltb (cond (not passes) (1 + p) 0) (suc (length ws))) (Some (get_or (w ∷ ws) (cond (not passes) (1 + p) 0) 0)) None
+    one true p later = sym (cond-true (ltb 0 (suc (length ws))) _ _ (lt-ltb 0 (suc (length ws)) (omega arith)))
+    one false p later = let next : 1 + p ≡ suc p = omega arith in rw (next, suc-suc) later
 
-    pub word_here : test (get_or ws i 0) ≡ true → first_word test ws ≡ Some (get_or ws i 0)
-    word_here passes = sym left ∙ here ∙ cond-true _ _ _ passes
-
-    pub word_on : test (get_or ws i 0) ≡ false → first_word test (drop (i + 1) ws) ≡ first_word test ws
-    word_on fails = sym (cond-false _ _ _ fails) ∙ sym here ∙ left
+pub word_found : (test : ℕ → Bool) (ws : List ℕ) (o : Option ℕ) → o ≡ cond (ltb (position_or_len test ws) (length ws)) (Some (position_or_len test ws)) None → WordFound test ws o
+word_found test ws o is =
+    let p = position_or_len test ws in
+    rw is (cond_both (ltb p (length ws)) (Some p) None (WordFound test ws) (λ yes. (ltb-true _ _ yes, place_of test ws ∙ cond-true _ _ _ yes)) (λ no. place_of test ws ∙ cond-false _ _ _ no))
 
 -- the clauses up to `at` have no place
 pub record Searching (test : List ℕ → ℕ → Bool) (s : List ℕ) (fill at : ℕ) : Type 0 where

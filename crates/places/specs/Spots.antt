@@ -4,7 +4,9 @@ use Rattle.std.specs.Option.{option_map}
 use Rattle.std.specs.List.{between}
 use Rattle.sheet.specs.Clauses.{Clause, Laid, clauses}
 use Rattle.sheet.specs.ClauseSteps.{Step, placed}
+use Rattle.sheet.specs.Sheets.{Lent, used_clauses, used_row}
 use Rattle.steps.specs.Places.{first_made, first_word}
+use Rattle.places.specs.Asking.{Asked}
 use Rattle.places.specs.declared.Found.{Found}
 
 -- a clause with one of its literals, and the clauses before it and behind it
@@ -41,3 +43,7 @@ pub record SpotAt (test : List ℕ → ℕ → Bool) (s : List ℕ) (fill : ℕ)
 abbrev pub PlaceFound : (List ℕ → ℕ → Bool) → List ℕ → ℕ → Option Found → Type 0
 PlaceFound test s fill None = first_spot test (clauses (take fill s)) ≡ None
 PlaceFound test s fill (Some p) = SpotAt test s fill p
+
+-- the same of lent buffers
+abbrev pub FoundIn : {W : Type 0} → Asked → Lent W → Option Found → Type 0
+FoundIn asked b o = PlaceFound (asked (used_row b) (used_clauses b)) b.sheet b.marks.sheet o

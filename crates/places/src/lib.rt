@@ -3,47 +3,41 @@
 #![tactic(auto)]
 
 ghost use Rattle.std.specs.Prelude.{◌≡◌, ℕ, ◌+◌, ◌<◌, ◌≤◌, List, length, take};
-ghost use Rattle.marking.specs.Marks.{MarksOf};
 ghost use Rattle.places.specs.Asking.{Asked};
-ghost use Rattle.places.specs.Spots.{PlaceFound, WordFound};
-ghost use Rattle.sheet.specs.Clauses.{Laid, clauses};
-ghost use Rattle.steps.specs.Rewriting.{is_plain, plain_lit};
+ghost use Rattle.places.specs.Spots.{FoundIn, WordFound};
+ghost use Rattle.sheet.specs.Clauses.{Laid};
+ghost use Rattle.sheet.specs.Lending.{lent_in};
+ghost use Rattle.sheet.specs.Literals.{has};
+ghost use Rattle.steps.specs.Rewriting.{plain_lit};
 
 use marking::Marked;
+use sheet::buffers::Buffers;
 use sheet::clause::{Place, read};
-use sheet::literal::SIGN;
+use sheet::clauses::Clauses;
+use sheet::literal::item;
 use sheet::row::{Item, Standing};
-
-// Whether an item is live and plain.
-fn stands_plain(standing: Standing) -> bool
-    ensures { result ≡ is_plain standing }
-{
-    match standing {
-        Standing::Plain => true,
-        Standing::Label | Standing::Fixed | Standing::Covered | Standing::Forced => false,
-    }
-}
 
 // Whether the literal's item is live and plain.
 pub fn is_plain(row: &[Item], w: u16) -> bool
     ensures { result ≡ plain_lit row.now w }
 {
-    let item = usize::from(w % SIGN);
-    if item == 0 || item > row.len() {
-        return false;
+    match item(w) {
+        0 => false,
+        i => row
+            .get(i - 1)
+            .is_some_and(|x| matches!(x.standing, Standing::Plain)),
     }
-    stands_plain(row[item - 1].standing)
 }
 
+// A trait and no closure: its contract names what is asked, where that of a closure would speak of every test.
 pub trait Test {
     // What is asked of a literal.
     ghost test: { Self → Asked };
 
-    // Whether the literal passes in the clause that is marked.
-    fn passes(&self, row: &[Item], sheet: &[u16], fill: usize, marked: &Marked, w: u16) -> bool
-        requires fits { fill ≤ length sheet.now }
-        requires laid { Laid (take fill sheet.now) }
-        ensures { (lits : List ℕ) → MarksOf marked.now.table lits → result ≡ test self.now row.now (clauses (take fill sheet.now)) lits w };
+    // Whether the literal passes in the clause that is marked, in whatever order its literals stand.
+    fn passes(&self, row: &[Item], clauses: &Clauses<'_>, marked: &Marked, w: u16) -> bool
+        ensures marked { result ≡ test self.now row.now clauses.now marked.now w }
+        ensures order { (lits : List ℕ) → ((x : ℕ) → has x marked.now ≡ has x lits) → result ≡ test self.now row.now clauses.now lits w };
 }
 
 // Where a clause with a literal that passes lies.
@@ -60,22 +54,14 @@ pub struct Found {
 fn first_literal<T: Test>(
     test: &T,
     row: &[Item],
-    sheet: &[u16],
-    fill: usize,
+    clauses: &Clauses<'_>,
     marked: &Marked,
     lits: &[u16],
 ) -> Option<usize>
-    requires fits { fill ≤ length sheet.now }
-    requires laid { Laid (take fill sheet.now) }
-    requires marked { MarksOf marked.now.table lits.now }
-    ensures { WordFound (T.Test.test test.now row.now (clauses (take fill sheet.now)) lits.now) lits.now result }
+    ensures { WordFound (T.Test.test test.now row.now clauses.now marked.now) lits.now result }
 {
-    for (i, w) in lits.iter().enumerate() {
-        if test.passes(row, sheet, fill, marked, *w) {
-            return Some(i);
-        }
-    }
-    None
+    lits.iter()
+        .position(|w| test.passes(row, clauses, marked, *w))
 }
 
 // A clause's place, with its literal `i`.
@@ -88,23 +74,29 @@ fn located(at: usize, place: Place, i: usize) -> Found
 }
 
 // The first place that passes.
-pub fn first_place<T: Test>(test: &T, row: &[Item], sheet: &[u16], fill: usize) -> Option<Found>
-    requires fits { fill ≤ length sheet.now }
-    requires laid { Laid (take fill sheet.now) }
-    ensures { PlaceFound (T.Test.test test.now row.now (clauses (take fill sheet.now))) sheet.now fill result }
+#[tactic(auto, using(crate::proofs::Searching::searching_inside, crate::proofs::Searching::searching_done))]
+pub fn first_place<T: Test, W>(test: &T, lent: Buffers<'_, W>) -> Option<Found>
+    requires fits { lent.marks.sheet ≤ length lent.sheet.now }
+    requires laid { Laid (take lent.marks.sheet lent.sheet.now) }
+    requires row { lent.counts.items ≤ length lent.row.now }
+    ensures { FoundIn (T.Test.test test.now) (lent_in lent.entry) result }
 {
+    let sheet = lent.sheet;
+    let fill = lent.marks.sheet;
+    let row = lent.items();
+    let clauses = lent.clauses();
     let mut marked = Marked::none();
     let mut at = 0;
+    // a cursor, since what is found is where it lies
     while at < fill {
         let place = read(sheet, fill, at);
-        let Place { from, to, end, .. } = place;
-        let lits = &sheet[from..to];
+        let lits = &sheet[place.from..place.to];
         marked.mark(lits);
-        if let Some(i) = first_literal(test, row, sheet, fill, &marked, lits) {
+        if let Some(i) = first_literal(test, row, &clauses, &marked, lits) {
             return Some(located(at, place, i));
         }
         marked.unmark(lits);
-        at = end;
+        at = place.end;
     }
     None
 }

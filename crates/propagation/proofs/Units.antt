@@ -1,9 +1,8 @@
 -- One step of unit propagation on the buffers is one on the sheet that they stand for. Assumes nothing.
-use Rattle.std.proofs.Common.{◌≡◌, ℕ, ◌+◌, ◌<◌, ◌≤◌, min, Bool, true, false, leb, List, [], ◌∷◌, ◌++◌, length, take, drop, Some, None, sym, refl, ap, ◌∙◌, subst, ap₂, inl, arith}
-use Rattle.std.specs.Option.{option_map}
+use Rattle.std.proofs.Common.{◌≡◌, ℕ, ◌+◌, ◌≤◌, min, Bool, true, leb, List, [], ◌∷◌, ◌++◌, length, take, drop, Some, None, sym, refl, ap, ◌∙◌, subst, ap₂, inl, arith, Option, MatchOption}
+use Rattle.std.specs.Option.{option_map, option_or}
 use Rattle.std.proofs.lemmas.List.{length-set, length-take-le}
 use Rattle.std.proofs.lemmas.Bool.{leb-true}
-use Rattle.weight.specs.Kind.{Lawful}
 use Rattle.weight.specs.declared.kind.Weight.{Ghosts}
 use Rattle.sheet.specs.declared.buffers.Marks.{Marks}
 use Rattle.sheet.specs.declared.buffers.Phase.TheVariants.{Working as at_work}
@@ -15,46 +14,54 @@ use Rattle.sheet.specs.Rows.{item_at}
 use Rattle.sheet.specs.Sheets.{Sheet, Lent, decoded, used_clauses, used_row, used_records}
 use Rattle.sheet.specs.Together.{HoldsTogether}
 use Rattle.sheet.proofs.Stacking.{stacked_pushed, records_pushed, stacked_words}
-use Rattle.meaning.specs.declared.report.Ending.TheVariants.{Done, Limit, Full}
-use Rattle.steps.specs.Propagation.{PropagationRuns, first_unit, made_unit, propagated, propagation, settled_as, unit_fits, unit_record}
+use Rattle.steps.specs.Places.{first_made}
+use Rattle.steps.specs.Propagation.{unit_here, unit_of, first_unit, made_unit, propagated, propagation, settled_as, unit_fits, unit_record}
 use Rattle.steps.specs.Rewriting.{retired}
 use Rattle.steps.specs.Rooms.{Room, room_of}
 use Rattle.steps.proofs.Holding.{ClauseHolds, clause_holds, record_valid}
 use Rattle.steps.proofs.Members.{In, all_in}
-use Rattle.steps.proofs.Propagated.{propagation_keeps, unit_place}
+use Rattle.steps.proofs.Propagated.{unit_place}
 use Rattle.rules.proofs.Holding.{Framed, framed, holds}
 use Rattle.rewriting.proofs.Rows.{row_front, row_behind_lem, row_reaches}
-use Rattle.rules.specs.Answering.{Went}
-use Rattle.rules.proofs.Piles.{report}
-use Rattle.rules.proofs.Stepping.{Follows, Stepping, stepping_done, stepping_limit, stepping_full, stepping_more}
+use Rattle.rules.specs.Stepping.{Follows, IsThere}
+
+-- what stands before is not looked at
+pub unit_rest : (before cs : List Clause) → first_made unit_here before cs ≡ first_made unit_here [] cs
+unit_rest before [] = refl
+unit_rest before (c ∷ cs) = ap (option_or (unit_of c.lits)) (unit_rest (before ++ c ∷ []) cs ∙ sym (unit_rest (c ∷ []) cs))
+
+-- what is seen in the lent buffers is what lies on the desk
+pub seen_unit : {W : Type 0} {b c : Lent W} {cs : List Clause} {o : Option ℕ} → o ≡ first_unit cs → cs ≡ used_clauses b → b ≡ c → o ≡ first_unit (used_clauses c)
+seen_unit found seen same = found ∙ ap first_unit (seen ∙ ap used_clauses same)
 
 -- the words of its record fit
 abbrev pub record_fits : {V : Type 0} → Room → Sheet V → Bool
 record_fits room s = unit_fits room s (first_unit s.clauses)
 
--- the loop of the run
-abbrev pub Propagating : {W : Type 0} (m : Ghosts W) → Lawful m.kind → ℕ → Lent W → Lent W → ℕ → Type 0
-Propagating m laws = Stepping m laws propagation record_fits (propagation_keeps laws)
-
 module _ {W : Type 0} (m : Ghosts W) (b : Lent W) where
-  pub none_left : None ≡ first_unit (used_clauses b) → propagation (decoded m b) ≡ None
+  pub none_left : first_unit (used_clauses b) ≡ None → propagation (decoded m b) ≡ None
   unfolding propagation decoded
-  none_left none = ap (option_map (made_unit (decoded m b))) (sym none)
+  none_left none = ap (option_map (made_unit (decoded m b))) none
 
-  module _ (together : HoldsTogether m at_work b) (w : ℕ) (found : Some w ≡ first_unit (used_clauses b)) where
+  pub one_left : (w : ℕ) → first_unit (used_clauses b) ≡ Some w → propagation (decoded m b) ≡ Some (made_unit (decoded m b) w)
+  unfolding propagation decoded
+  one_left w found = ap (option_map (made_unit (decoded m b))) found
+
+  -- what the search answers
+  pub unit_found : (o : Option ℕ) → o ≡ first_unit (used_clauses b) → MatchOption o (propagation (decoded m b) ≡ None) (λ w. (first_unit (used_clauses b) ≡ Some w) × IsThere propagation (decoded m b))
+  unit_found None is = none_left (sym is)
+  unit_found (Some w) is = (sym is, (made_unit (decoded m b) w, one_left w (sym is)))
+
+  module _ (together : HoldsTogether m at_work b) (w : ℕ) (found : first_unit (used_clauses b) ≡ Some w) where
     abbrev s : Sheet m.Value
     s = decoded m b
-
-    pub one_left : propagation (decoded m b) ≡ Some (made_unit (decoded m b) w)
-    unfolding propagation decoded
-    one_left = ap (option_map (made_unit s)) (sym found)
 
     pub unit_fits_lem : record_fits (room_of b) (decoded m b) ≡ leb (b.marks.stack + 3) (min (length b.stack) 32768)
     unfolding decoded
     unit_fits_lem =
         let frame = framed m b together in
         let words : length (encode_stack (used_records b)) ≡ b.marks.stack = ap length (stacked_words _ frame.stacked) ∙ length-take-le b.marks.stack b.stack frame.stack.length in
-        ap (unit_fits (room_of b) s) (sym found) ∙ ap (λ n. leb (n + 3) (min (length b.stack) 32768)) words
+        ap (unit_fits (room_of b) s) found ∙ ap (λ n. leb (n + 3) (min (length b.stack) 32768)) words
 
     -- the clause of the unit
     record UnitClause : Type 0 where
@@ -65,7 +72,7 @@ module _ {W : Type 0} (m : Ghosts W) (b : Lent W) where
     unit : UnitClause
     unfolding decoded
     unit =
-        let place = unit_place (used_clauses b) w (sym found) in
+        let place = unit_place (used_clauses b) w found in
         record { clause = place.0; stands = clause_holds (holds m b together) place.0 place.1; lits = place.2 }
 
     in_unit : In w unit.clause.lits
@@ -98,7 +105,7 @@ module _ {W : Type 0} (m : Ghosts W) (b : Lent W) where
       pub unit_made : propagation (decoded m b) ≡ Some (decoded m after)
       unfolding decoded
       unit_made =
-          one_left
+          one_left w found
           ∙ ap₂ (λ (items : List Item) (cs : List Clause). Some (record { callers = s.callers; row = items; clauses = cs; stack = s.stack ++ unit_record w ∷ []; weights = s.weights })) (sym (row_front row b.row settled_row b.counts.items settled count)) (sym rewritten)
           ∙ ap (λ (rs : List Record). Some (record { callers = s.callers; row = take b.counts.items row; clauses = clauses (take marks.sheet sheet); stack = rs; weights = s.weights }))
           (sym (records_pushed (take b.marks.stack b.stack) (unit_record w) (take marks.stack stack) pushed unit_valid))
@@ -123,38 +130,3 @@ module _ {W : Type 0} (m : Ghosts W) (b : Lent W) where
         room = ap₂ (λ (n k : ℕ). record { sheet = min n 32768; stack = min k 32768 }) long high;
         behind = row_behind_lem row b.row settled_row b.counts.items settled count;
       }
-
--- What the run answers.
-module _ {W : Type 0} (m : Ghosts W) (laws : Lawful m.kind) {limit : ℕ} {b c : Lent W} {steps : ℕ} (h : Propagating m laws limit b c steps) where
-  pub propagated_all : None ≡ first_unit (used_clauses c) → Went m PropagationRuns limit b c (report steps Done)
-  unfolding PropagationRuns
-  propagated_all none = stepping_done m laws propagation record_fits (propagation_keeps laws) h (none_left m c none)
-
-  module _ (w : ℕ) (found : Some w ≡ first_unit (used_clauses c)) where
-    abbrev next : Sheet m.Value
-    next = made_unit (decoded m c) w
-
-    some : propagation (decoded m c) ≡ Some next
-    some = one_left m c h.still w found
-
-    pub propagated_most : steps ≡ limit → Went m PropagationRuns limit b c (report steps Limit)
-    unfolding PropagationRuns
-    propagated_most all = stepping_limit m laws propagation record_fits (propagation_keeps laws) h next some all
-
-    pub propagated_full : steps < limit → leb (c.marks.stack + 3) (min (length c.stack) 32768) ≡ false → Went m PropagationRuns limit b c (report steps Full)
-    unfolding PropagationRuns
-    propagated_full less full = stepping_full m laws propagation record_fits (propagation_keeps laws) h next some less (unit_fits_lem m c h.still w found ∙ full)
-
-    -- and the loop goes on once the step is made
-    pub propagated_more : steps < limit → leb (c.marks.stack + 3) (min (length c.stack) 32768) ≡ true → (sheet stack : List ℕ) (row : List Item) (marks : Marks)
-        → length sheet ≡ length c.sheet → length stack ≡ length c.stack → marks.sheet ≤ c.marks.sheet → Laid (take marks.sheet sheet) → clauses (take marks.sheet sheet) ≡ propagated w (used_clauses c)
-        → marks.stack ≡ c.marks.stack + 3 → take marks.stack stack ≡ take c.marks.stack c.stack ++ record_words (unit_record w)
-        → row ≡ settled_row m c h.still w found ++ drop c.counts.items c.row
-        → Propagating m laws limit b (record { sheet = sheet; row = row; stack = stack; weights = c.weights; marks = marks; counts = c.counts }) (steps + 1)
-    propagated_more less fits sheet stack row marks long high shrinks laid rewritten end pushed settled =
-        let still = h.still in
-        stepping_more m laws propagation record_fits (propagation_keeps laws) h _
-        (unit_made m c still w found sheet stack row marks long high shrinks laid rewritten end pushed settled)
-        (unit_fits_lem m c still w found ∙ fits) less
-        (unit_framed m c still w found sheet stack row marks long high shrinks laid rewritten end pushed settled fits)
-        (unit_follows m c still w found sheet stack row marks long high shrinks laid rewritten end pushed settled)

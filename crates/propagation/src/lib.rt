@@ -2,27 +2,28 @@
 // the others, and its item is retired. The record of the unit brings the item back when an answer is unwound.
 #![tactic(auto)]
 
-ghost use Rattle.std.specs.Prelude.{◌≡◌, ◌+◌, ◌≤◌, min, ◌++◌, length, take, nat_le};
-ghost use Rattle.sheet.specs.Clauses.{Laid, clauses};
+ghost use Rattle.std.specs.Prelude.{◌≡◌, ◌+◌, ◌≤◌, min, ◌++◌, length, take, Some, nat_le, ⊤};
 ghost use Rattle.sheet.specs.Literals.{item_of};
 ghost use Rattle.sheet.specs.Records.{record_words};
 ghost use Rattle.sheet.specs.Rows.{item_at};
-ghost use Rattle.steps.specs.Propagation.{PropagationRuns, first_unit, settled_as, unit_of, unit_record};
+ghost use Rattle.sheet.specs.Sheets.{used_clauses};
+ghost use Rattle.steps.specs.Propagation.{PropagationRuns, first_unit, propagation, settled_as, unit_fits, unit_of, unit_record};
 ghost use Rattle.steps.specs.Rewriting.{retired};
+ghost use Rattle.steps.proofs.Propagated.{propagation_keeps};
 
-use checking::holds_together;
-use meaning::report::{Ending, Report};
+use meaning::report::Report;
 use rewriting::{make_true, retire};
 use rules::rule::Rule;
-use sheet::buffers::{Counts, Marks, Phase, WORDS};
-use sheet::clause::{Place, read};
-use sheet::literal::SIGN;
+use rules::technique::{Technique, repeat};
+use sheet::buffers::{Desk, Marks, WORDS};
+use sheet::clauses::Clauses;
+use sheet::literal::item;
 use sheet::record::push;
 use sheet::refusal::Refusal;
 use sheet::row::{Item, Standing};
 use weight::Weight;
 
-// The code of a unit's record.
+// The code of a unit's record. No enum: the layout takes any code from 1 to 15, and `push` as well.
 const UNIT: u16 = 3;
 
 // The literal of a clause that has no other.
@@ -37,28 +38,24 @@ fn unit(lits: &[u16]) -> Option<u16>
 }
 
 // The literal of the first clause that has no other.
-fn first_unit(sheet: &[u16], fill: usize) -> Option<u16>
-    requires fits { fill ≤ length sheet.now }
-    requires laid { Laid (take fill sheet.now) }
-    ensures { result ≡ first_unit (clauses (take fill sheet.now)) }
+#[tactic(auto, using(crate::proofs::Units::unit_rest))]
+fn first_unit(clauses: &Clauses<'_>) -> Option<u16>
+    ensures { result ≡ first_unit clauses.now }
 {
-    let mut at = 0;
-    while at < fill {
-        let Place { from, to, end, .. } = read(sheet, fill, at);
-        if let Some(w) = unit(&sheet[from..to]) {
+    for clause in clauses.iter() {
+        if let Some(w) = unit(clause.lits) {
             return Some(w);
         }
-        at = end;
     }
     None
 }
 
-// Whether the three words of a unit's record fit behind the mark.
-fn record_fits(stack: &[u16], mark: usize) -> bool
-    requires { mark ≤ length stack.now }
-    ensures { result ≡ nat_le (mark + 3) (min (length stack.now) 32768) }
+// Whether the three words of a unit's record fit behind the mark, on a stack of this length.
+fn record_fits(length: usize, mark: usize) -> bool
+    requires { mark ≤ 32768 }
+    ensures { result ≡ nat_le (mark + 3) (min length 32768) }
 {
-    mark + 3 <= stack.len() && mark + 3 <= WORDS
+    mark + 3 <= length.min(WORDS)
 }
 
 // Puts the record of a unit on the stack, and returns where it ends.
@@ -82,14 +79,48 @@ fn settled(standing: Standing) -> Standing
 }
 
 // Retires the item of a literal that is true from now on.
+#[tactic(auto, using(rewriting::proofs::Rows::item_is))]
 fn settle(row: &mut [Item], w: u16)
     requires low { 1 ≤ item_of w }
     requires high { item_of w ≤ length row.old }
     ensures { row.new ≡ retired row.old (item_of w) (settled_as (item_at row.old (item_of w)).standing) }
 {
-    let i = (w % SIGN) as usize;
+    let i = item(w);
     let standing = settled(row[i - 1].standing);
     retire(row, i, standing);
+}
+
+// One step after another; the search begins anew for each.
+#[derive(Clone, Copy)]
+struct Search {}
+
+impl<W: Weight> Technique<W> for Search {
+    type Place = u16;
+
+    ghost step = { λ V k. propagation };
+
+    ghost fits = { λ V k room t. unit_fits room t (first_unit t.clauses) };
+
+    ghost ready = { λ s b. ⊤ };
+
+    ghost found = { λ s b w. first_unit (used_clauses b) ≡ Some w };
+
+    ghost keeps = { propagation_keeps W.Weight.lawful };
+
+    fn find(&mut self, desk: &Desk<'_, W>) -> Option<u16> {
+        first_unit(&desk.buffers().clauses())
+    }
+
+    fn make(&mut self, desk: &mut Desk<'_, W>, w: u16) -> bool {
+        let Marks { sheet, stack } = desk.marks;
+        if !record_fits(desk.stack.len(), stack) {
+            return false;
+        }
+        desk.marks.stack = record_unit(desk.stack, stack, w);
+        desk.marks.sheet = make_true(desk.sheet, sheet, w);
+        settle(desk.row, w);
+        true
+    }
 }
 
 #[derive(Clone, Copy)]
@@ -98,43 +129,7 @@ pub struct Propagation {}
 impl<W: Weight> Rule<W> for Propagation {
     ghost runs = { λ r V k room. PropagationRuns room };
 
-    fn run(
-        &self,
-        sheet: &mut [u16],
-        row: &mut [Item],
-        stack: &mut [u16],
-        weights: &[W],
-        marks: &mut Marks,
-        counts: Counts,
-        limit: u64,
-    ) -> Result<Report, Refusal> {
-        if let Some(part) = holds_together(
-            Phase::Working,
-            sheet,
-            row,
-            stack,
-            weights,
-            *marks,
-            counts,
-        ) {
-            return Err(Refusal::NotTogether(part));
-        }
-        let mut steps = 0;
-        while let Some(w) = first_unit(sheet, marks.sheet) {
-            if steps == limit {
-                let ending = Ending::Limit;
-                return Ok(Report { steps, ending });
-            }
-            if !record_fits(stack, marks.stack) {
-                let ending = Ending::Full;
-                return Ok(Report { steps, ending });
-            }
-            marks.stack = record_unit(stack, marks.stack, w);
-            marks.sheet = make_true(sheet, marks.sheet, w);
-            settle(&mut row[..counts.items], w);
-            steps += 1;
-        }
-        let ending = Ending::Done;
-        Ok(Report { steps, ending })
+    fn run(&self, desk: &mut Desk<'_, W>, limit: u64) -> Result<Report, Refusal> {
+        repeat(&mut Search {}, desk, limit)
     }
 }

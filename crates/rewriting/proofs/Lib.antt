@@ -1,4 +1,3 @@
 pub mod Rows
 pub mod Moving
 pub mod Sweeping
-pub mod Finding

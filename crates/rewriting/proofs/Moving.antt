@@ -12,9 +12,6 @@ module _ (s ws kept : List ℕ) (out from to count : ℕ) (down : out < from) (o
   abbrev changed : List ℕ
   changed = put_mid from (to - from) s ws
 
-  pub kept_count : length kept ≡ count
-  kept_count = sym (ap length front) ∙ length-take-le count ws (omega arith)
-
   kept_part : between from (from + count) changed ≡ kept
   kept_part =
       cut_front changed from (from + count) to (take count ws) (drop count ws)
@@ -23,27 +20,20 @@ module _ (s ws kept : List ℕ) (out from to count : ℕ) (down : out < from) (o
       ∙ front
 
   -- slid down to behind `out`
-  module _ (slid : List ℕ) (size : ℕ) (end : size ≡ out + 1 + ((from + count) - from)) (down-there : take size slid ≡ take (out + 1) changed ++ between from (from + count) changed) where
+  module _ (slid : List ℕ) (size : ℕ) (end : size ≡ out + 1 + ((from + count) - from)) (down-there : take size slid ≡ take (out + 1) changed ++ between from (from + count) changed)
+      (behind : drop (from + count) slid ≡ drop (from + count) changed) where
     slid_front : take (out + 1 + count) slid ≡ take (out + 1) s ++ kept
     slid_front =
         let same : out + 1 + count ≡ size = omega arith in
         ap (λ n. take n slid) same ∙ down-there
         ∙ ap₂ (λ (xs ys : List ℕ). xs ++ ys) (take-put_mid_below from (to - from) s ws (out + 1) (omega arith) (omega arith)) kept_part
 
-    pub slid_before : take out slid ≡ take out s
-    slid_before =
-        let less : out ≤ out + 1 + count = omega arith in
+    -- what lies before, what lies there, and what lies behind
+    pub moved_down : (take out slid ≡ take out s) × (between (out + 1) (out + 1 + count) slid ≡ kept) × ((end : ℕ) → to ≤ end → drop end slid ≡ drop end s)
+    moved_down =
         let one : out ≤ out + 1 = omega arith in
-        let long_front : length (take (out + 1) s) ≡ out + 1 = length-take-le (out + 1) s (omega arith) in
-        let inside : out ≤ length (take (out + 1) s) = omega arith in
-        sym (take-take out (out + 1 + count) slid less) ∙ ap (take out) slid_front ∙ take-append-le out (take (out + 1) s) kept inside ∙ take-take out (out + 1) s one
-
-    pub slid_lits : between (out + 1) (out + 1 + count) slid ≡ kept
-    slid_lits =
-        cut_back slid 0 (out + 1) (out + 1 + count) (take (out + 1) s) kept (between_zero slid (out + 1 + count) ∙ slid_front)
-        (let same = length-take-le (out + 1) s (omega arith) in omega arith)
-
-  pub slid_behind : (slid : List ℕ) (end : ℕ) → to ≤ end → drop (from + count) slid ≡ drop (from + count) changed → drop end slid ≡ drop end s
-  slid_behind slid end past behind =
-      drop_later slid changed (from + count) end (omega arith) behind
-      ∙ drop-put_mid from (to - from) s ws end (omega arith) (omega arith) long
+        let long_front = length-take-le (out + 1) s (omega arith) in (
+          sym (take-take out (out + 1 + count) slid (omega arith)) ∙ ap (take out) slid_front ∙ take-append-le out (take (out + 1) s) kept (omega arith) ∙ take-take out (out + 1) s one,
+          cut_back slid 0 (out + 1) (out + 1 + count) (take (out + 1) s) kept (between_zero slid (out + 1 + count) ∙ slid_front) (omega arith),
+          λ end past. drop_later slid changed (from + count) end (omega arith) behind ∙ drop-put_mid from (to - from) s ws end (omega arith) (omega arith) long,
+        )

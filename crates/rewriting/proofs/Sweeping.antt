@@ -1,9 +1,9 @@
 -- A literal made true in one pass: a cursor that reads, and a mark behind it up to which the rewritten clauses lie. Assumes nothing.
-use Rattle.std.proofs.Common.{◌≡◌, ℕ, ◌+◌, ◌-◌, ◌<◌, ◌≤◌, true, false, List, [], ◌∷◌, ◌++◌, map, length, take, drop, filter, sym, refl, ap, ◌∙◌, arith}
+use Rattle.std.proofs.Common.{◌≡◌, ℕ, ◌+◌, ◌-◌, ◌<◌, ◌≤◌, true, List, [], ◌∷◌, ◌++◌, map, length, take, drop, filter, sym, refl, ap, ◌∙◌, arith}
 use Rattle.std.specs.List.{between}
 use Rattle.std.proofs.lemmas.List.{append_assoc, append-nil, length-append}
 use Rattle.std.proofs.lemmas.List.Edits.{length-between}
-use Rattle.std.proofs.lemmas.Bool.{cond-true, cond-false}
+use Rattle.std.proofs.lemmas.Bool.{cond-true}
 use Rattle.sheet.specs.declared.clause.Place.{Place}
 use Rattle.sheet.specs.Clauses.{Clause, Valid, Laid, clauses, clause_words, ordinal_of}
 use Rattle.sheet.specs.ClauseSteps.{Step, placed}
@@ -59,21 +59,7 @@ module _ {w : ℕ} {s : List ℕ} {fill : ℕ} {cur : List ℕ} {out at : ℕ} (
     abbrev later : List Clause
     later = clauses (between p.end fill cur)
 
-    -- a clause with the literal goes
-    pub sweeping_gone : lacks w (placed cur p) ≡ false → Sweeping w s fill cur out p.end
-    sweeping_gone has = record {
-      long = h.long;
-      low = omega (arith, h.low, step.from, step.order, step.inside);
-      high = step.fits;
-      front = h.front;
-      ahead = step.rest;
-      swept =
-          ap (λ cs. clauses (take out cur) ++ cs)
-          (sym (ap (map (lacking (opposite w))) (cond-false (lacks w c) (c ∷ filter (lacks w) later) (filter (lacks w) later) has)) ∙ ap (propagated w) (sym step.here))
-          ∙ h.swept;
-    }
-
-    -- another moves down without the denial
+    -- a clause without the literal moves down, without its denial
     pub sweeping_moved : lacks w (placed cur p) ≡ true → (cur' : List ℕ) (out' : ℕ) → length cur' ≡ length cur → out' ≤ p.end
         → take out' cur' ≡ take out cur ++ clause_words (lacking (opposite w) (placed cur p)) → drop p.end cur' ≡ drop p.end cur → Sweeping w s fill cur' out' p.end
     sweeping_moved stays cur' out' long low front behind =

@@ -1,15 +1,16 @@
-// What several techniques do to the lent buffers: a literal is made true in all clauses, and an item is retired.
+// What several techniques do to the lent buffers: a literal is made true in all clauses, and an item is retired. And how many items they look at.
 #![tactic(auto)]
 
 ghost use Rattle.std.specs.Prelude.{◌≡◌, ◌+◌, ◌<◌, ◌≤◌, not, ◌++◌, length, take, drop};
 ghost use Rattle.sheet.specs.ClauseSteps.{placed};
 ghost use Rattle.sheet.specs.Clauses.{Laid, clause_words, clauses, ordinal_of};
 ghost use Rattle.sheet.specs.Literals.{has};
+ghost use Rattle.steps.specs.Places.{nameable as named};
 ghost use Rattle.steps.specs.Propagation.{propagated};
 ghost use Rattle.steps.specs.Rewriting.{but, lacking, retired};
 
 use sheet::clause::{Place, enclose, read};
-use sheet::literal::{has_literal, opposite};
+use sheet::literal::{SIGN, has_literal, opposite};
 use sheet::row::{Item, Standing};
 use sheet::words::slide;
 
@@ -19,10 +20,10 @@ fn keep_others(words: &mut [u16], w: u16) -> usize
     ensures kept { take result words.new ≡ but w words.old }
 {
     let mut count = 0;
+    // an index, since the words are written under it, and a slice has no `retain`
     for i in 0..words.len() {
-        let x = words[i];
-        if x != w {
-            words[count] = x;
+        if words[i] != w {
+            words[count] = words[i];
             count += 1;
         }
     }
@@ -64,32 +65,30 @@ pub fn make_true(sheet: &mut [u16], fill: usize, w: u16) -> usize
     let denial = opposite(w);
     let mut out = 0;
     let mut at = 0;
+    // a cursor, since the words change under it
     while at < fill {
         let place = read(sheet, fill, at);
-        let Place { from, to, end, .. } = place;
-        if stays(&sheet[from..to], w) {
+        if stays(&sheet[place.from..place.to], w) {
             out = move_without(sheet, out, place, denial);
         }
-        at = end;
+        at = place.end;
     }
     out
 }
 
-// The item with another standing. A label keeps its ordinal, by which it is known what it costs.
-fn standing_as(item: Item, standing: Standing) -> Item
-    ensures { result ≡ record { standing = standing; ordinal = item.ordinal } }
-{
-    Item {
-        standing,
-        ordinal: item.ordinal,
-    }
-}
-
-// Gives item `i` another standing.
+// Gives item `i` another standing. A label keeps its ordinal, by which it is known what it costs.
+#[tactic(auto, using(crate::proofs::Rows::item_is))]
 pub fn retire(row: &mut [Item], i: usize, standing: Standing)
     requires low { 1 ≤ i }
     requires high { i ≤ length row.old }
     ensures { row.new ≡ retired row.old i standing }
 {
-    row[i - 1] = standing_as(row[i - 1], standing);
+    row[i - 1].standing = standing;
+}
+
+// How many of the items a literal can name.
+pub fn nameable(items: usize) -> u16
+    ensures { result ≡ named items }
+{
+    items.min(usize::from(SIGN - 1)) as u16
 }

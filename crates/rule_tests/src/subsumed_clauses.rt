@@ -1,34 +1,35 @@
 // Subsumption: a clause that has all the literals of another goes, of equals the later.
-use crate::desk::{Outcome, PLAIN, counts, holds, label, ran, whole};
+use crate::desk::{Outcome, counts, ran, words};
 use meaning::report::Ending;
-use sheet::buffers::Marks;
+use sheet::buffers::{Desk, Marks};
+use sheet::row::{Item, Standing};
 use std::process::Abort;
 use subsumption::Subsumption;
+use weight::Whole;
 
-// Runs on a copy of these words over three items, of which the third is a label, and looks at what is left.
+const LABEL: Item = Item {
+    standing: Standing::Label,
+    ordinal: 0,
+};
+
+// Runs on these words over three items, of which the third is a label, and looks at what is left.
 fn leaves<const N: usize>(
     rt: &impl Abort,
-    words: [u16; N],
+    mut sheet: [u16; N],
     limit: u64,
     outcome: Outcome,
     left: &[u16],
 ) {
-    let mut sheet = words;
-    let mut row = [PLAIN, PLAIN, label(0)];
-    let mut marks = Marks { sheet: N, stack: 0 };
-    let rule = Subsumption {};
-    let told = ran(
-        &rule,
-        &mut sheet,
-        &mut row,
-        &mut [],
-        &[whole(7)],
-        &mut marks,
-        counts(3, 1),
-        limit,
-    );
-    assert_eq!(rt; told, outcome);
-    assert!(rt; holds(&sheet, marks.sheet, left));
+    let mut desk = Desk {
+        sheet: &mut sheet,
+        row: &mut [Item::PLAIN, Item::PLAIN, LABEL],
+        stack: &mut [],
+        weights: &[Whole { units: 7 }],
+        marks: Marks { sheet: N, stack: 0 },
+        counts: counts(3, 1),
+    };
+    assert_eq!(rt; ran(&Subsumption {}, &mut desk, limit), outcome);
+    assert_eq!(rt; words(&desk), Some(left));
 }
 
 #[test]

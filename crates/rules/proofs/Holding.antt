@@ -14,13 +14,13 @@ use Rattle.sheet.specs.declared.refusal.Part.TheVariants.{Sheet as in_sheet, Row
 use Rattle.sheet.specs.declared.row.Item.{Item}
 use Rattle.sheet.specs.Literals.{item_of}
 use Rattle.sheet.specs.Rows.{item_at, is_label, is_live, label_ordinals}
-use Rattle.sheet.specs.Clauses.{Clause, Laid, soft_ordinals, ordinal_of}
-use Rattle.sheet.specs.Records.{Stacked}
-use Rattle.sheet.specs.Sheets.{Lent, Fits, used_clauses, used_row, used_weights, decoded}
+use Rattle.sheet.specs.Clauses.{Clause, soft_ordinals, ordinal_of}
+use Rattle.sheet.specs.Sheets.{Lent, used_clauses, used_row, used_weights, decoded}
 use Rattle.sheet.specs.Together.{Stands, Distinct, of_phase, HoldsTogether, Fails}
 use Rattle.sheet.proofs.Laying.{valid_laid}
 use Rattle.sheet.proofs.Stacking.{stacked_valid}
 use Rattle.meaning.specs.Running.{Holds}
+pub use Rattle.rules.specs.Stepping.{Framed}
 
 -- Working clauses.
 
@@ -74,15 +74,6 @@ module _ (row : List Item) (n : ℕ) (long : n ≤ length row) (w : ℕ) where
         live = λ inside. sym (ap (λ x. is_live x.standing) same) ∙ stands.live fits;
         undenied = λ inside denied. sym (ap (λ x. is_label x.standing) same) ∙ stands.undenied fits denied;
       }
-
--- how far the buffers reach, and that their words are those of clauses and records
-pub record Framed {W : Type 0} (b : Lent W) : Type 0 where
-  pub sheet : Fits b.marks.sheet b.sheet
-  pub laid : Laid (take b.marks.sheet b.sheet)
-  pub row : b.counts.items ≤ length b.row
-  pub stack : Fits b.marks.stack b.stack
-  pub stacked : Stacked (take b.marks.stack b.stack)
-  pub weights : b.counts.softs ≤ length b.weights
 
 module _ {W : Type 0} (m : Ghosts W) (b : Lent W) where
   weights_count : b.counts.softs ≤ length b.weights → length (map m.value (used_weights b)) ≡ b.counts.softs

@@ -1,3 +1,4 @@
 pub mod Holding
+pub mod Refused
 pub mod Piles
 pub mod Stepping

@@ -1,5 +1,5 @@
 -- A rule that repeats a step over lent buffers: what its loop keeps, and what it answers. Assumes nothing.
-use Rattle.std.proofs.Common.{◌≡◌, ℕ, ◌+◌, ◌<◌, Bool, true, false, drop, Some, None, Option, sym, refl, ap, ◌∙◌}
+use Rattle.std.proofs.Common.{◌≡◌, ℕ, ◌+◌, ◌<◌, Bool, true, false, Some, None, Option, sym, refl, ap, ◌∙◌}
 use Rattle.weight.specs.Kind.{Lawful}
 use Rattle.weight.specs.declared.kind.Weight.{Ghosts}
 use Rattle.sheet.specs.declared.buffers.Phase.TheVariants.{Working as at_work}
@@ -8,20 +8,15 @@ use Rattle.sheet.specs.Together.{HoldsTogether}
 use Rattle.meaning.specs.declared.report.Ending.TheVariants.{Done, Limit, Full}
 use Rattle.meaning.specs.declared.report.Report.{Report}
 use Rattle.meaning.specs.Running.{Ran}
-use Rattle.meaning.specs.Steps.{outcome, repeated_step, Runs}
+use Rattle.meaning.specs.Steps.{outcome, repeated_step}
 use Rattle.meaning.proofs.Piling.{ran_repeated}
 use Rattle.meaning.proofs.Turning.{Turning, turning_none, turning_done, turning_limit, turning_full, turning_more}
 use Rattle.steps.specs.Keeping.{KeepsMeaning}
 use Rattle.steps.specs.Rooms.{Room, room_of}
 use Rattle.rules.specs.Answering.{Went}
+pub use Rattle.rules.specs.Stepping.{Follows, repeats}
 use Rattle.rules.proofs.Holding.{Framed, framed, holds, together}
 use Rattle.rules.proofs.Piles.{report, behind_both}
-
--- c is what b has become: counts, room and the row behind the items are the same
-pub record Follows {W : Type 0} (b c : Lent W) : Type 0 where
-  pub counts : c.counts ≡ b.counts
-  pub room : room_of c ≡ room_of b
-  pub behind : drop b.counts.items c.row ≡ drop b.counts.items b.row
 
 pub follows_itself : {W : Type 0} (b : Lent W) → Follows b b
 follows_itself b = record { counts = refl; room = refl; behind = refl }
@@ -35,13 +30,9 @@ follows_both b c d first second = record {
 
 module _ {W : Type 0} (m : Ghosts W) (laws : Lawful m.kind) (step : Sheet m.Value → Option (Sheet m.Value)) (fits : Room → Sheet m.Value → Bool)
     (keeps : (room : Room) → KeepsMeaning m.kind step (fits room)) where
-  -- what the rule says it runs
-  abbrev pub repeats : Room → Runs (Sheet m.Value)
-  repeats room n s o = o ≡ repeated_step step (fits room) n s
-
   -- a run that is exactly the repeated step
   pub went_exactly : (limit : ℕ) (b c : Lent W) (r : Report) → HoldsTogether m at_work b → Framed c → Follows b c
-      → outcome r.steps r.ending (decoded m c) ≡ repeated_step step (fits (room_of b)) limit (decoded m b) → Went m repeats limit b c r
+      → outcome r.steps r.ending (decoded m c) ≡ repeated_step step (fits (room_of b)) limit (decoded m b) → Went m (repeats step fits) limit b c r
   went_exactly limit b c r before frame follows exact = record {
     before = before;
     after = together m c frame ran.meaning.holds;
@@ -66,19 +57,25 @@ module _ {W : Type 0} (m : Ghosts W) (laws : Lawful m.kind) (step : Sheet m.Valu
   stepping_none limit b before = record { before = before; still = before; turning = turning_none step (fits (room_of b)) limit (decoded m b); follows = follows_itself b }
 
   module _ {limit : ℕ} {b c : Lent W} {steps : ℕ} (h : Stepping limit b c steps) where
-    ended : (r : Report) → outcome r.steps r.ending (decoded m c) ≡ repeated_step step (fits (room_of b)) limit (decoded m b) → Went m repeats limit b c r
+    ended : (r : Report) → outcome r.steps r.ending (decoded m c) ≡ repeated_step step (fits (room_of b)) limit (decoded m b) → Went m (repeats step fits) limit b c r
     ended r exact = went_exactly limit b c r h.before (framed m c h.still) h.follows exact
 
-    pub stepping_done : step (decoded m c) ≡ None → Went m repeats limit b c (report steps Done)
+    pub stepping_done : step (decoded m c) ≡ None → Went m (repeats step fits) limit b c (report steps Done)
     stepping_done none = ended (report steps Done) (turning_done step (fits (room_of b)) h.turning none)
 
     -- there is a place
     module _ (t : Sheet m.Value) (some : step (decoded m c) ≡ Some t) where
-      pub stepping_limit : steps ≡ limit → Went m repeats limit b c (report steps Limit)
+      pub stepping_limit : steps ≡ limit → Went m (repeats step fits) limit b c (report steps Limit)
       stepping_limit all = ended (report steps Limit) (turning_limit step (fits (room_of b)) h.turning t some all)
 
-      pub stepping_full : steps < limit → fits (room_of c) (decoded m c) ≡ false → Went m repeats limit b c (report steps Full)
+      pub stepping_full : steps < limit → fits (room_of c) (decoded m c) ≡ false → Went m (repeats step fits) limit b c (report steps Full)
       stepping_full less full = ended (report steps Full) (turning_full step (fits (room_of b)) h.turning t some less (ap (λ room. fits room (decoded m c)) (sym h.follows.room) ∙ full))
+
+      -- the words that were tried are behind the marks
+      pub stepping_full_behind : (d : Lent W) → steps < limit → fits (room_of c) (decoded m c) ≡ false → decoded m d ≡ decoded m c → Framed d → Follows c d → Went m (repeats step fits) limit b d (report steps Full)
+      stepping_full_behind d less full same frame follows =
+          went_exactly limit b d (report steps Full) h.before frame (follows_both b c d h.follows follows)
+          (ap (outcome steps Full) same ∙ turning_full step (fits (room_of b)) h.turning t some less (ap (λ room. fits room (decoded m c)) (sym h.follows.room) ∙ full))
 
     -- and its step was made
     pub stepping_more : (d : Lent W) → step (decoded m c) ≡ Some (decoded m d) → fits (room_of c) (decoded m c) ≡ true → steps < limit → Framed d → Follows c d → Stepping limit b d (steps + 1)

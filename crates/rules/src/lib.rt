@@ -3,3 +3,4 @@
 
 pub mod pile;
 pub mod rule;
+pub mod technique;

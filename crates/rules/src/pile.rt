@@ -5,9 +5,8 @@ ghost use Rattle.meaning.specs.Steps.{Then, Repeated, is_going_on};
 use crate::rule::Rule;
 use checking::holds_together;
 use meaning::report::{Ending, Report};
-use sheet::buffers::{Counts, Marks, Phase};
+use sheet::buffers::{Desk, Phase};
 use sheet::refusal::Refusal;
-use sheet::row::Item;
 use weight::Weight;
 
 // The first rule, and then the second with what is left of the limit, if the first ended done or rounds.
@@ -48,26 +47,13 @@ fn together(first: Report, second: Report) -> Report
 impl<W: Weight, A: Rule<W>, B: Rule<W>> Rule<W> for Sequence<A, B> {
     ghost runs = { λ r V k room. Then (A.Rule.runs r.first V k room) (B.Rule.runs r.second V k room) };
 
-    fn run(
-        &self,
-        sheet: &mut [u16],
-        row: &mut [Item],
-        stack: &mut [u16],
-        weights: &[W],
-        marks: &mut Marks,
-        counts: Counts,
-        limit: u64,
-    ) -> Result<Report, Refusal> {
-        let first = self
-            .first
-            .run(sheet, row, stack, weights, marks, counts, limit)?;
+    fn run(&self, desk: &mut Desk<'_, W>, limit: u64) -> Result<Report, Refusal> {
+        let first = self.first.run(desk, limit)?;
         if !goes_on(first.ending) {
             return Ok(first);
         }
         let left = limit - first.steps;
-        let second = self
-            .second
-            .run(sheet, row, stack, weights, marks, counts, left)?;
+        let second = self.second.run(desk, left)?;
         Ok(together(first, second))
     }
 }
@@ -82,33 +68,12 @@ pub struct Repetition<R> {
 impl<W: Weight, R: Rule<W>> Rule<W> for Repetition<R> {
     ghost runs = { λ r V k room. Repeated (R.Rule.runs r.rule V k room) r.rounds };
 
-    fn run(
-        &self,
-        sheet: &mut [u16],
-        row: &mut [Item],
-        stack: &mut [u16],
-        weights: &[W],
-        marks: &mut Marks,
-        counts: Counts,
-        limit: u64,
-    ) -> Result<Report, Refusal> {
+    fn run(&self, desk: &mut Desk<'_, W>, limit: u64) -> Result<Report, Refusal> {
         // no round may be asked for, and bad buffers are refused all the same
-        if let Some(part) = holds_together(
-            Phase::Working,
-            sheet,
-            row,
-            stack,
-            weights,
-            *marks,
-            counts,
-        ) {
-            return Err(Refusal::NotTogether(part));
-        }
+        holds_together(Phase::Working, desk.buffers())?;
         let mut made = 0;
         for round in 0..self.rounds {
-            let one = self
-                .rule
-                .run(sheet, row, stack, weights, marks, counts, limit - made)?;
+            let one = self.rule.run(desk, limit - made)?;
             if !goes_on(one.ending) {
                 return Ok(Report {
                     steps: made + one.steps,

@@ -2,14 +2,14 @@
 // run is a rule; the six techniques and the piles made of them are some.
 ghost use Rattle.meaning.specs.Steps.{Runs};
 ghost use Rattle.rules.specs.Answering.{RunAnswered};
-ghost use Rattle.sheet.specs.Sheets.{Sheet, lent};
+ghost use Rattle.sheet.specs.Lending.{SameLoans, lent_on};
+ghost use Rattle.sheet.specs.Sheets.{Sheet};
 ghost use Rattle.steps.specs.Rooms.{Room};
 ghost use Rattle.weight.specs.Kind.{Kind};
 
 use meaning::report::Report;
-use sheet::buffers::{Counts, Marks};
+use sheet::buffers::Desk;
 use sheet::refusal::Refusal;
-use sheet::row::Item;
 use weight::Weight;
 
 pub trait Rule<W: Weight> {
@@ -17,15 +17,7 @@ pub trait Rule<W: Weight> {
     ghost runs: { Self → (V : Type 0) → Kind V → Room → Runs (Sheet V) };
 
     // Makes at most `limit` steps. It refuses only buffers that do not hold together.
-    fn run(
-        &self,
-        sheet: &mut [u16],
-        row: &mut [Item],
-        stack: &mut [u16],
-        weights: &[W],
-        marks: &mut Marks,
-        counts: Counts,
-        limit: u64,
-    ) -> Result<Report, Refusal>
-        ensures { RunAnswered W.Weight (runs self.now W.Weight.Value W.Weight.kind) limit (lent sheet.old row.old stack.old weights.now marks.old counts) (lent sheet.new row.new stack.new weights.now marks.new counts) result };
+    fn run(&self, desk: &mut Desk<'_, W>, limit: u64) -> Result<Report, Refusal>
+        ensures answer { RunAnswered W.Weight (runs self.now W.Weight.Value W.Weight.kind) limit (lent_on desk.old) (lent_on desk.new) result }
+        ensures loans { SameLoans desk.old desk.new };
 }

@@ -1,5 +1,5 @@
 // Literals sent, and what is stored of them.
-use crate::{count, first_bad, is_tautology, note_all, write_words};
+use crate::{Flags, first_bad};
 
 #[test]
 fn a_literal_is_bad_at_zero_and_beyond_the_items(rt: HostRuntime) {
@@ -11,24 +11,19 @@ fn a_literal_is_bad_at_zero_and_beyond_the_items(rt: HostRuntime) {
 
 #[test]
 fn repeats_collapse_and_words_ascend(rt: HostRuntime) {
-    let mut flags = [false; 4096];
-    note_all(&[7, -3, 7, 2, 7], &mut flags);
+    let flags = Flags::of(&[7, -3, 7, 2, 7]);
     let mut sheet = [9; 5];
-    assert_eq!(rt; write_words(&flags, &mut sheet, 1), 4);
+    assert_eq!(rt; flags.write(&mut sheet, 1), 4);
     assert_eq!(rt; sheet, [9, 2, 7, 32771, 9]);
-    assert_eq!(rt; count(&flags), 3);
+    assert_eq!(rt; flags.len(), 3);
 }
 
 #[test]
 fn both_signs_of_an_item_are_a_tautology(rt: HostRuntime) {
-    let mut flags = [false; 4096];
-    note_all(&[2000, 5, -2000], &mut flags);
-    assert!(rt; is_tautology(&flags));
+    assert!(rt; Flags::of(&[2000, 5, -2000]).is_tautology());
 }
 
 #[test]
 fn one_sign_of_each_item_is_no_tautology(rt: HostRuntime) {
-    let mut flags = [false; 4096];
-    note_all(&[-1, 2, -1], &mut flags);
-    assert!(rt; !is_tautology(&flags));
+    assert!(rt; !Flags::of(&[-1, 2, -1]).is_tautology());
 }

@@ -65,12 +65,10 @@ module _ {W : Type 0} (m : Ghosts W) (laws : Lawful m.kind) (b : Lent W) (togeth
   row_long : length (used_row b) ≡ b.counts.items
   row_long = length-take-le b.counts.items b.row together.row.fits
 
-  pub unwindable : Unwindable m sent (used_row b) b.stack b.marks.stack (used_weights b)
+  pub unwindable : Unwindable m sent (used_row b) (used_records b) (used_weights b)
   unwindable = record {
     bits = passes_bits b.counts.items (used_clauses b) sent passes;
     long = long ∙ sym row_long;
-    fits = together.stack.fits.length;
-    laid = together.stack.laid;
     literals = subst (λ n. AllByRecursion (λ r. AllByRecursion (Literal n) r.lits) (used_records b)) (sym long) together.stack.literals;
     weighed = subst (λ n. Weighed n (used_row b)) (sym (length-take-le b.counts.softs b.weights together.weights.fits)) together.row.ranged;
     sheet_within = λ bytes. held_row_cost_within m laws together (values_of bytes);

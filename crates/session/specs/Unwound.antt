@@ -1,5 +1,5 @@
 -- Unwinding an answer: when it refuses, in the order of the causes, and what it makes of the answer. Assumes nothing.
-use Rattle.std.specs.Prelude.{◌≡◌, ℕ, ◌≤◌, true, cond, List, length, take, Some, None, Ok, Err, Option, Result, ◌==◌}
+use Rattle.std.specs.Prelude.{◌≡◌, ℕ, true, cond, List, length, Some, None, Ok, Err, Option, Result, ◌==◌}
 use Rattle.std.specs.Option.{option_map}
 use Rattle.std.specs.List.{AllByRecursion}
 use Rattle.weight.specs.declared.kind.Weight.{Ghosts}
@@ -9,7 +9,7 @@ use Rattle.sheet.specs.declared.refusal.Refusal.{Refusal}
 use Rattle.sheet.specs.declared.refusal.Refusal.TheVariants.{AnswerLength, NeitherYesNorNo, ClauseUnmet}
 use Rattle.sheet.specs.Clauses.{Clause}
 use Rattle.sheet.specs.Literals.{Literal}
-use Rattle.sheet.specs.Records.{records, Stacked}
+use Rattle.sheet.specs.Records.{Record}
 use Rattle.sheet.specs.Sheets.{Lent, decoded}
 use Rattle.sheet.specs.Together.{HoldsTogether}
 use Rattle.meaning.specs.Accepted.{Accepted, Plan, plan_cost}
@@ -66,12 +66,10 @@ abbrev pub UnwindFaithful : {W : Type 0} (m : Ghosts W) → Lent W → List ℕ 
 UnwindFaithful m b after r = (acc : List (Accepted m.Value)) → Reached m.kind delivered acc (decoded m b) → Faithful m.kind acc (decoded m b) × UnwoundWithin m acc after r
 
 -- What unwinding asks of an answer and of the parts of the buffers that are in use.
-pub record Unwindable {W : Type 0} (m : Ghosts W) (answer : List ℕ) (row : List Item) (stack : List ℕ) (fill : ℕ) (weights : List W) : Type 0 where
+pub record Unwindable {W : Type 0} (m : Ghosts W) (answer : List ℕ) (row : List Item) (stack : List Record) (weights : List W) : Type 0 where
   pub bits : Bits answer
   pub long : length answer ≡ length row
-  pub fits : fill ≤ length stack
-  pub laid : Stacked (take fill stack)
-  pub literals : AllByRecursion (λ r. AllByRecursion (Literal (length answer)) r.lits) (records (take fill stack))
+  pub literals : AllByRecursion (λ r. AllByRecursion (Literal (length answer)) r.lits) stack
   pub weighed : Weighed (length weights) row
   -- no cost passes the ceiling
   pub sheet_within : (bytes : List ℕ) → m.kind.within (sheet_cost_in m row weights bytes) ≡ true

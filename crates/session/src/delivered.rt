@@ -6,7 +6,8 @@ use sheet::buffers::{Counts, Marks};
 pub mod settle;
 pub mod unwind;
 
-// Plain numbers; the buffers are the caller's and lent to each call.
+// Plain numbers. The buffers are the caller's, and lent to each call one by one: a call may write only to those that it takes as `&mut`.
+// A type beside `Working`, which has the same numbers: the compiler tells the states apart.
 pub struct Delivered {
     marks: Marks,
     counts: Counts,
@@ -14,7 +15,8 @@ pub struct Delivered {
 
 impl Delivered {
     pub(crate) fn of(marks: Marks, counts: Counts) -> Delivered
-        ensures { (result.marks ≡ marks) × (result.counts ≡ counts) }
+        ensures marks { result.marks ≡ marks }
+        ensures counts { result.counts ≡ counts }
     {
         Delivered { marks, counts }
     }

@@ -7,7 +7,7 @@ pub mod add;
 pub mod close;
 pub mod open;
 
-// Plain numbers; the buffers are the caller's and lent to each call.
+// Plain numbers. The buffers are the caller's, and lent to each call one by one: a call may write only to those that it takes as `&mut`.
 #[derive(Drop)]
 pub struct Gathering {
     marks: Marks,

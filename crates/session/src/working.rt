@@ -6,7 +6,7 @@ use sheet::buffers::{Counts, Marks};
 pub mod deliver;
 pub mod run;
 
-// Plain numbers; the buffers are the caller's and lent to each call.
+// Plain numbers. The buffers are the caller's, and lent to each call one by one: a call may write only to those that it takes as `&mut`.
 #[derive(Drop)]
 pub struct Working {
     marks: Marks,
@@ -15,7 +15,8 @@ pub struct Working {
 
 impl Working {
     pub(crate) fn of(marks: Marks, counts: Counts) -> Working
-        ensures { (result.marks ≡ marks) × (result.counts ≡ counts) }
+        ensures marks { result.marks ≡ marks }
+        ensures counts { result.counts ≡ counts }
     {
         Working { marks, counts }
     }

@@ -1,19 +1,16 @@
 -- A cursor over clauses: the words before it and behind it, and its move by one clause. Assumes nothing.
-use Rattle.std.proofs.Common.{◌≡◌, ℕ, ◌+◌, ◌*◌, ◌≤◌, List, [], ◌∷◌, ◌++◌, length, get_or, take, ap, ◌∙◌, arith}
+use Rattle.std.proofs.Common.{◌≡◌, ℕ, ◌≤◌, List, [], ◌∷◌, ◌++◌, take, ap, ◌∙◌, arith}
 use Rattle.std.specs.List.{between}
 use Rattle.sheet.specs.declared.clause.Place.{Place}
-use Rattle.sheet.specs.Clauses.{Laid, clauses, kind_of}
+use Rattle.sheet.specs.Clauses.{Laid, clauses}
 use Rattle.sheet.specs.ClauseSteps.{Step, placed}
-use Rattle.sheet.proofs.Cuts.{between_end, between_first, take_parts}
-use Rattle.sheet.proofs.Laying.{clauses_append, clauses_nil, clauses_one, laid_append, laid_behind, laid_words}
+use Rattle.sheet.proofs.Cuts.{between_end, take_parts}
+use Rattle.sheet.proofs.Laying.{clauses_append, clauses_nil, clauses_one, laid_append, laid_words}
 
 -- a boundary parts laid words
 module _ (s : List ℕ) (at fill : ℕ) (order : at ≤ fill) (front : Laid (take at s)) where
   pub laid_parts : Laid (between at fill s) → Laid (take fill s)
   laid_parts back = rw (take_parts s at fill order) (laid_append (take at s) (between at fill s) front back)
-
-  pub laid_rest : Laid (take fill s) → Laid (between at fill s)
-  laid_rest whole = laid_behind (take at s) (between at fill s) front (rw (take_parts s at fill order) at whole)
 
   pub clauses_parts : clauses (take fill s) ≡ clauses (take at s) ++ clauses (between at fill s)
   clauses_parts = ap clauses (take_parts s at fill order) ∙ clauses_append (take at s) (between at fill s) front
@@ -22,9 +19,6 @@ pub clauses_end : (s : List ℕ) (at fill : ℕ) → fill ≤ at → clauses (be
 clauses_end s at fill past = ap clauses (between_end s at fill past) ∙ clauses_nil
 
 module _ (s : List ℕ) (at fill : ℕ) (p : Place) (step : Step s at fill p) where
-  pub header_step : get_or s at 0 ≡ kind_of p.tag * 4096 + length (placed s p).lits
-  header_step = between_first s at p.end 0 _ _ (omega arith) step.words
-
   pub laid_step : Laid (between at p.end s)
   laid_step = rw step.words (laid_words (placed s p) step.valid)
 

@@ -1,5 +1,5 @@
 -- Words with a header written in front of literals, and an ordinal behind them. Assumes nothing.
-use Rattle.std.proofs.Common.{◌≡◌, ℕ, ◌+◌, ◌-◌, ◌*◌, ◌<◌, ◌≤◌, List, [], ◌∷◌, ◌++◌, length, take, drop, set, sym, refl, ap, ◌∙◌, ap₂, add-zero, arith}
+use Rattle.std.proofs.Common.{◌≡◌, ℕ, ◌+◌, ◌-◌, ◌*◌, ◌<◌, ◌≤◌, List, [], ◌∷◌, ◌++◌, length, take, set, sym, refl, ap, ◌∙◌, ap₂, add-zero, arith}
 use Rattle.std.specs.List.{between}
 use Rattle.std.proofs.lemmas.List.{append_assoc, append-nil, drop-set-lt, get_or-set_same, length-set, take_more_set, take-set}
 use Rattle.std.proofs.lemmas.List.Edits.{length-between}
@@ -46,11 +46,3 @@ pub enclosed : (s : List ℕ) (at count : ℕ) (t : Tag) → at + 1 + count + le
 enclosed s at count Hard room = rw add-zero (enclosed_plain s at count (omega arith) Hard refl)
 enclosed s at count (Soft n) room = enclosed_soft s at count (omega arith) n (omega arith)
 enclosed s at count Working room = rw add-zero (enclosed_plain s at count (omega arith) Working refl)
-
--- and the words behind them
-pub enclosed_behind : (s : List ℕ) (at count h : ℕ) (t : Tag)
-    → drop (at + 1 + count + length (ordinal_of t)) (with_ordinal (set s at h) (at + 1 + count) t) ≡ drop (at + 1 + count + length (ordinal_of t)) s
-enclosed_behind s at count h Hard = drop-set-lt (at + 1 + count + 0) s at h (omega arith)
-enclosed_behind s at count h (Soft n) =
-    drop-set-lt (at + 1 + count + 1) (set s at h) (at + 1 + count) n (omega arith) ∙ drop-set-lt (at + 1 + count + 1) s at h (omega arith)
-enclosed_behind s at count h Working = drop-set-lt (at + 1 + count + 0) s at h (omega arith)

@@ -1,15 +1,13 @@
--- What a header says of the clause that it begins: from laid words to a step, and back. Assumes nothing.
-use Rattle.std.proofs.Common.{◌≡◌, ℕ, zero, suc, ◌+◌, ◌*◌, ◌/◌, ◌%◌, ◌<◌, ◌≤◌, List, [], ◌∷◌, ◌++◌, length, get_or, take, sym, refl, ap, ◌∙◌, arith}
+-- What a header says of the clause that it begins: from laid words to a step. Assumes nothing.
+use Rattle.std.proofs.Common.{◌≡◌, ℕ, ◌+◌, ◌*◌, ◌/◌, ◌%◌, ◌<◌, ◌≤◌, List, [], ◌∷◌, ◌++◌, length, get_or, sym, refl, ap, ◌∙◌, arith}
 use Rattle.std.specs.List.{between}
 use Rattle.std.proofs.lemmas.List.{length-append}
 use Rattle.std.proofs.lemmas.List.Edits.{get_or-between, length-between}
 use Rattle.sheet.specs.declared.clause.Place.{Place}
-use Rattle.sheet.specs.Literals.{Normal}
 use Rattle.sheet.specs.Clauses.{Tag, Hard, Soft, Working, Laid, clauses, clause_words, encode, kind_of, ordinal_of, tag_of, behind}
 use Rattle.sheet.specs.ClauseSteps.{Step, placed}
-use Rattle.sheet.proofs.Cuts.{between_cons, between_end, between_first, between_join, cut_back, cut_front}
-use Rattle.sheet.proofs.Laying.{Opened, Ordinal, behind_kind, clauses_encode, laid_encode, laid_words, opened, same_clause, tag_kind}
-use Rattle.sheet.proofs.Cursors.{header_step, laid_rest}
+use Rattle.sheet.proofs.Cuts.{between_first, cut_back, cut_front}
+use Rattle.sheet.proofs.Laying.{Opened, Ordinal, behind_kind, clauses_encode, laid_encode, opened, same_clause, tag_kind}
 
 -- the place that the header at `at` tells of: a soft's ordinal is its last word
 abbrev pub place_at : List ℕ → ℕ → Place
@@ -99,63 +97,3 @@ module _ (s : List ℕ) (at fill : ℕ) (fits : fill ≤ length s) (less : at < 
   -- the same, field by field
   pub step_told : Laid (between at fill s) → (p : Place) → p.tag ≡ (place_at s at).tag → p.from ≡ at + 1 → p.to ≡ (place_at s at).to → p.end ≡ (place_at s at).end → Step s at fill p
   step_told laid p tag from to end = rw (same_place p (place_at s at) tag from to end) (step_at laid)
-
-  -- inside laid words, at a boundary
-  pub step_inside : Laid (take at s) → Laid (take fill s) → Step s at fill (place_at s at)
-  step_inside front whole = step_at (laid_rest s at fill (omega arith) front whole)
-
-kind_range : (t : Tag) → (1 ≤ kind_of t) × (kind_of t ≤ 3)
-kind_range Hard = (omega arith, omega arith)
-kind_range (Soft n) = (omega arith, omega arith)
-kind_range Working = (omega arith, omega arith)
-
-pub kind_step : (s : List ℕ) (at fill : ℕ) (p : Place) → Step s at fill p → (1 ≤ get_or s at 0 / 4096) × (get_or s at 0 / 4096 ≤ 3)
-kind_step s at fill p step =
-    let header = header_step s at fill p step in
-    let range = kind_range p.tag in
-    (omega (arith, range.0), omega (arith, range.1))
-
--- The way back.
-
-tag_for : (k n : ℕ) → 1 ≤ k → k ≤ 3 → (t : Tag) × (k ≡ kind_of t) × Ordinal t n
-tag_for zero n low high = absurd (omega arith)
-tag_for (suc zero) n low high = (Hard, refl, λ some. absurd (omega arith))
-tag_for (suc (suc zero)) n low high = (Soft n, refl, λ some. refl)
-tag_for (suc (suc (suc zero))) n low high = (Working, refl, λ some. absurd (omega arith))
-tag_for (suc (suc (suc (suc k)))) n low high = absurd (omega arith)
-
-ordinal_words : (s : List ℕ) (t : Tag) (to end : ℕ) → end ≡ to + length (ordinal_of t) → end ≤ length s → Ordinal t (get_or s to 0) → between to end s ≡ ordinal_of t
-ordinal_words s Hard to end size fits is = between_end s to end (omega arith)
-ordinal_words s (Soft n) to end size fits is =
-    between_cons s to end 0 (omega arith) fits
-    ∙ ap (λ ns. get_or s to 0 ∷ ns) (between_end s (to + 1) end (omega arith))
-    ∙ ap (λ m. m ∷ []) (is (omega arith))
-ordinal_words s Working to end size fits is = between_end s to end (omega arith)
-
-module _ (s : List ℕ) (at end : ℕ) (size : end ≡ at + 1 + behind (get_or s at 0)) (fits : end ≤ length s) where
-  abbrev last : ℕ
-  last = at + 1 + get_or s at 0 % 4096
-
-  abbrev lits : List ℕ
-  lits = between (at + 1) last s
-
-  module _ (t : Tag) (kind : get_or s at 0 / 4096 ≡ kind_of t) (ordinal : Ordinal t (get_or s last 0)) where
-    reach : end ≡ last + length (ordinal_of t)
-    reach = omega (arith, behind_kind t (get_or s at 0) kind)
-
-    length_lits : length lits ≡ get_or s at 0 % 4096
-    length_lits = omega (arith, length-between s (at + 1) last (omega (arith, reach)))
-
-    words : between at end s ≡ clause_words (record { tag = t; lits = lits })
-    words =
-        between_cons s at end 0 (omega arith) fits
-        ∙ ap (λ ws. get_or s at 0 ∷ ws) (between_join s (at + 1) last end (omega arith) (omega (arith, reach)))
-        ∙ ap (λ ws. get_or s at 0 ∷ (lits ++ ws)) (ordinal_words s t last end reach fits ordinal)
-        ∙ ap (λ n. n ∷ (lits ++ ordinal_of t)) (omega (arith, length_lits))
-
-    laid_tag : Normal lits → Laid (between at end s)
-    laid_tag normal = rw words (laid_words (record { tag = t; lits = lits }) (record { count = omega (arith, length_lits); normal = normal }))
-
-  -- a header of a known kind, the words that it counts, and its ordinal
-  pub laid_header : 1 ≤ get_or s at 0 / 4096 → get_or s at 0 / 4096 ≤ 3 → Normal lits → Laid (between at end s)
-  laid_header low high = let found = tag_for (get_or s at 0 / 4096) (get_or s last 0) low high in laid_tag found.0 found.1 found.2

@@ -1,10 +1,13 @@
 pub mod Cuts
-pub mod Slides
 pub mod Deciding
+pub mod Members
 pub mod Rises
 pub mod Signs
 pub mod Laying
+pub mod Loans
 pub mod Cursors
+pub mod Compactions
+pub mod Heads
 pub mod Headers
 pub mod Enclosing
 pub mod Counting

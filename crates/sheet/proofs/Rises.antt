@@ -1,8 +1,11 @@
 -- Ascending words by their places. Assumes nothing.
-use Rattle.std.proofs.Common.{◌≡◌, ℕ, zero, suc, ◌+◌, ◌<◌, ◌≤◌, List, [], ◌∷◌, length, get_or, ap, inl, inr, arith}
+use Rattle.std.proofs.Common.{◌≡◌, ℕ, zero, suc, ◌+◌, ◌<◌, ◌≤◌, Bool, true, false, ltb, List, [], ◌∷◌, length, get_or, Decides, ap, inl, inr, arith}
 use Rattle.std.proofs.ByRecursion.{All-get_or, All-weaker}
 use Rattle.std.proofs.lemmas.Bool.{cases_lt}
+use Rattle.std.proofs.lemmas.Bool.Decides.{nat_tests}
+use Rattle.std.specs.List.{IsAllAdjacentAnswer}
 use Rattle.sheet.specs.Literals.{Rising}
+use Rattle.sheet.proofs.Deciding.{accepts, refuses}
 
 pub rising_places : (ws : List ℕ) → Rising ws → (i j : ℕ) → i < j → j < length ws → get_or ws i 0 < get_or ws j 0
 rising_places [] up i j less inside = absurd (omega arith)
@@ -24,3 +27,10 @@ rising_neighbours (w ∷ v ∷ ws) next =
     let below : w < v = next 0 (omega arith) in
     let rest = rising_neighbours (v ∷ ws) (λ k inside. let one : suc k + 1 ≡ suc (k + 1) = omega arith in rw one at (next (suc k) (omega arith))) in
     ((below, All-weaker (λ y. v < y) (λ y. w < y) (λ y above. omega arith) ws rest.0), rest)
+
+-- so a test of each with the next decides
+pub neighbours_decide : (r : Bool) (ws : List ℕ) → IsAllAdjacentAnswer (λ v w b. b ≡ ltb v w) ws r → Decides r (Rising ws)
+neighbours_decide true ws h = accepts (rising_neighbours ws (λ k inside. let up = h k 0 inside in grind (arith, nat_tests)))
+neighbours_decide false ws h =
+    let down = h.2 0 in
+    refuses (λ up. let above = rising_places ws up h.0 (h.0 + 1) (omega arith) h.1 in grind (arith, nat_tests))

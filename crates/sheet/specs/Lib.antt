@@ -2,8 +2,10 @@ pub mod Literals
 pub mod Rows
 pub mod Clauses
 pub mod ClauseSteps
+pub mod Views
 pub mod Records
 pub mod RecordSteps
 pub mod Sheets
+pub mod Lending
 pub mod Together
 pub mod Refusals

@@ -1,5 +1,5 @@
 -- When lent buffers hold together, part by part in the order of the check. Assumes nothing.
-use Rattle.std.specs.Prelude.{◌≡◌, ℕ, ◌<◌, ◌≤◌, Bool, true, false, List, [], ◌∷◌, ◌++◌, length, take, Some, None, Option, ◌≢◌}
+use Rattle.std.specs.Prelude.{◌≡◌, ℕ, ◌<◌, ◌≤◌, Bool, true, false, List, [], ◌∷◌, ◌++◌, length, take, Ok, Err, Result, ◌≢◌}
 use Rattle.std.specs.List.{AllByRecursion}
 use Rattle.weight.specs.Total.{total_in}
 use Rattle.weight.specs.declared.kind.Weight.{Ghosts}
@@ -88,6 +88,6 @@ Fails m phase b in_stack = SheetHolds phase b × RowHolds b × (StackHolds phase
 Fails m phase b in_weights = SheetHolds phase b × RowHolds b × StackHolds phase b × (WeightsHold m b → ⊥)
 
 -- What the check answers: the first part that fails, if one does.
-abbrev pub Checked : {W : Type 0} (m : Ghosts W) → Phase → Lent W → Option Part → Type 0
-Checked m phase b None = HoldsTogether m phase b
-Checked m phase b (Some part) = Fails m phase b part
+abbrev pub Checked : {W : Type 0} (m : Ghosts W) → Phase → Lent W → Result (Unit {0}) Part → Type 0
+Checked m phase b (Ok u) = HoldsTogether m phase b
+Checked m phase b (Err part) = Fails m phase b part

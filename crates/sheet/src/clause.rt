@@ -1,5 +1,5 @@
 // How a clause lies in words. No other module knows.
-ghost use Rattle.std.specs.Prelude.{◌≡◌, ◌+◌, ◌*◌, ◌<◌, ◌≤◌, ◌++◌, length, take, drop, Decides, slice_set};
+ghost use Rattle.std.specs.Prelude.{◌≡◌, ◌+◌, ◌*◌, ◌%◌, ◌<◌, ◌≤◌, ◌++◌, length, take, drop, Decides, slice_set};
 ghost use Rattle.std.specs.List.{between};
 ghost use Rattle.sheet.specs.ClauseSteps.{OneSign, Parted, Step, with_ordinal};
 ghost use Rattle.sheet.specs.Clauses.{Laid, behind, clause_words, kind_of, ordinal_of, tag_of};
@@ -9,7 +9,7 @@ use crate::literal::SIGN;
 use std::cmp::Ordering;
 
 // A header is its kind times this, and its count, which is below it.
-const COUNT_LIMIT: u16 = 4096;
+pub const COUNT_LIMIT: u16 = 4096;
 
 #[derive(Clone, Copy)]
 pub enum Tag {
@@ -19,6 +19,7 @@ pub enum Tag {
     Working,
 }
 
+// The layout numbers the kinds, and only this module knows the numbers: an enum of kinds would be a second one beside `Tag`.
 impl Tag {
     // What stands for the tag in a header.
     fn kind(self) -> u16
@@ -59,16 +60,19 @@ fn is_kind(kind: u16) -> bool
     matches!(kind, 1..=3)
 }
 
+// How many literals a header counts.
+fn count(header: u16) -> usize
+    ensures { result ≡ header % 4096 }
+{
+    usize::from(header % COUNT_LIMIT)
+}
+
 // How many words stand behind a header: the literals that it counts, and a soft's ordinal.
 fn words_behind(header: u16) -> usize
     ensures { result ≡ behind header }
 {
-    let count = (header % COUNT_LIMIT) as usize;
-    if header / COUNT_LIMIT == 2 {
-        count + 1
-    } else {
-        count
-    }
+    let has_ordinal = header / COUNT_LIMIT == 2;
+    count(header) + usize::from(has_ordinal)
 }
 
 // The clause whose header stands at `at`.
@@ -85,7 +89,7 @@ pub fn read(sheet: &[u16], fill: usize, at: usize) -> Place
         // the last word is a soft's ordinal
         tag: Tag::of(header / COUNT_LIMIT, sheet[at + behind]),
         from,
-        to: from + (header % COUNT_LIMIT) as usize,
+        to: from + count(header),
         end: from + behind,
     }
 }
@@ -93,12 +97,7 @@ pub fn read(sheet: &[u16], fill: usize, at: usize) -> Place
 fn is_rising(lits: &[u16]) -> bool
     ensures { Decides result (Rising lits.now) }
 {
-    for i in 1..lits.len() {
-        if lits[i - 1] >= lits[i] {
-            return false;
-        }
-    }
-    true
+    lits.is_sorted_by(|v, w| v < w)
 }
 
 // Where the denied literals begin: their sign puts them behind the plain ones.
@@ -106,12 +105,7 @@ fn first_denied(lits: &[u16]) -> usize
     requires { Rising lits.now }
     ensures { Parted lits.now result }
 {
-    for (i, w) in lits.iter().enumerate() {
-        if *w >= SIGN {
-            return i;
-        }
-    }
-    lits.len()
+    lits.partition_point(|w| *w < SIGN)
 }
 
 // Whether no item stands on both sides of `split`. Both sides ascend by item, so one pass over each finds it.
@@ -120,6 +114,7 @@ fn has_one_sign(lits: &[u16], split: usize) -> bool
     requires parted { Parted lits.now split }
     ensures { Decides result (OneSign lits.now) }
 {
+    // two cursors: each side moves on alone, and a pair of shrinking slices says no more
     let mut plain = 0;
     let mut denied = split;
     while plain < split && denied < lits.len() {
@@ -139,23 +134,19 @@ pub fn is_normal(lits: &[u16]) -> bool
     is_rising(lits) && has_one_sign(lits, first_denied(lits))
 }
 
-// Whether the first `fill` words are exactly those of clauses that follow the layout.
-pub fn is_laid(sheet: &[u16], fill: usize) -> bool
-    requires { fill ≤ length sheet.now }
-    ensures { Decides result (Laid (take fill sheet.now)) }
+// Whether the words are exactly those of clauses that follow the layout.
+pub fn is_laid(words: &[u16]) -> bool
+    ensures { Decides result (Laid words.now) }
 {
-    let mut at = 0;
-    while at < fill {
-        let header = sheet[at];
-        let behind = words_behind(header);
-        let from = at + 1;
-        if !is_kind(header / COUNT_LIMIT) || behind > fill - from {
+    let mut rest = words;
+    while let Some((header, behind)) = rest.split_first() {
+        let Some((body, next)) = behind.split_at_checked(words_behind(*header)) else {
+            return false;
+        };
+        if !is_kind(header / COUNT_LIMIT) || !is_normal(&body[..count(*header)]) {
             return false;
         }
-        if !is_normal(&sheet[from..from + (header % COUNT_LIMIT) as usize]) {
-            return false;
-        }
-        at = from + behind;
+        rest = next;
     }
     true
 }

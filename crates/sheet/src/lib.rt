@@ -3,8 +3,10 @@
 
 pub mod buffers;
 pub mod clause;
+pub mod clauses;
 pub mod literal;
 pub mod record;
+pub mod records;
 pub mod refusal;
 pub mod row;
 pub mod words;

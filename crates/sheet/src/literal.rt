@@ -1,25 +1,34 @@
 // Literals as 16-bit words, as clauses and records hold them.
 ghost use Rattle.std.specs.Prelude.{◌≡◌};
-ghost use Rattle.sheet.specs.Literals.{has, opposite as denial};
+ghost use Rattle.sheet.specs.Literals.{denied, has, item_of, opposite as denial};
 
 // What the denial of an item has above its number.
 pub const SIGN: u16 = 32768;
 
+// The item that the literal names.
+pub fn item(w: u16) -> usize
+    ensures { result ≡ item_of w }
+{
+    usize::from(w % SIGN)
+}
+
+pub fn is_denied(w: u16) -> bool
+    ensures { result ≡ denied w }
+{
+    w >= SIGN
+}
+
 // Whether `w` is one of the literals.
+#[tactic(auto, using(crate::proofs::Members::has_is_any))]
 pub fn has_literal(lits: &[u16], w: u16) -> bool
     ensures { result ≡ has w lits.now }
 {
-    for x in lits {
-        if *x == w {
-            return true;
-        }
-    }
-    false
+    lits.contains(&w)
 }
 
 // The same item with the other sign.
 pub fn opposite(w: u16) -> u16
     ensures { result ≡ denial w }
 {
-    if w >= SIGN { w - SIGN } else { w + SIGN }
+    if is_denied(w) { w - SIGN } else { w + SIGN }
 }

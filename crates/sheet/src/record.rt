@@ -12,37 +12,36 @@ const COUNT_LIMIT: u16 = 4096;
 // Where a record lies: its literals are the words from `from` up to `to`, the witness stands at `to`, and the trailer behind it.
 #[derive(Clone, Copy)]
 pub struct Filed {
+    // any number from 1 to 15: an enum of the techniques that record would be narrower than the layout
     pub code: u16,
     pub from: usize,
     pub to: usize,
     pub witness: u16,
 }
 
-// The record that the first `end` words end with, if they have room for it; whether it is valid is not looked at.
-fn last_record(stack: &[u16], end: usize) -> Option<Filed>
-    requires fits { end ≤ length stack.now }
-    requires some { 0 < end }
-    ensures { MatchOption result (Stacked (take end stack.now) → ⊥) (Ends stack.now end) }
+// The record that the words end with, if they have room for it; whether it is valid is not looked at.
+fn last_record(words: &[u16]) -> Option<Filed>
+    requires { 0 < length words.now }
+    ensures { MatchOption result (Stacked words.now → ⊥) (Ends words.now) }
 {
-    let to = end.checked_sub(2)?;
-    let trailer = stack[to + 1];
+    let to = words.len().checked_sub(2)?;
+    let trailer = words[to + 1];
     let from = to.checked_sub((trailer % COUNT_LIMIT) as usize)?;
     Some(Filed {
         code: trailer / COUNT_LIMIT,
         from,
         to,
-        witness: stack[to],
+        witness: words[to],
     })
 }
 
-// The newest record of a stack filled up to `fill`.
-pub fn newest(stack: &[u16], fill: usize) -> Filed
-    requires fits { fill ≤ length stack.now }
-    requires some { 0 < fill }
-    requires laid { Stacked (take fill stack.now) }
-    ensures { Newest stack.now fill result }
+// The newest of the records that the words hold.
+pub fn newest(words: &[u16]) -> Filed
+    requires some { 0 < length words.now }
+    requires laid { Stacked words.now }
+    ensures { Newest words.now result }
 {
-    last_record(stack, fill).unwrap()
+    last_record(words).unwrap()
 }
 
 // Whether the record that lies at `last` follows the layout.
@@ -63,20 +62,19 @@ fn is_valid(stack: &[u16], last: Filed) -> bool
     code > 0 && from < to && is_normal(lits) && has_literal(lits, witness)
 }
 
-// Whether the first `fill` words are exactly those of records that follow the layout.
-pub fn is_stacked(stack: &[u16], fill: usize) -> bool
-    requires { fill ≤ length stack.now }
-    ensures { Decides result (Stacked (take fill stack.now)) }
+// Whether the words are exactly those of records that follow the layout.
+pub fn is_stacked(words: &[u16]) -> bool
+    ensures { Decides result (Stacked words.now) }
 {
-    let mut end = fill;
-    while end > 0 {
-        let Some(last) = last_record(stack, end) else {
+    let mut rest = words;
+    while !rest.is_empty() {
+        let Some(last) = last_record(rest) else {
             return false;
         };
-        if !is_valid(stack, last) {
+        if !is_valid(rest, last) {
             return false;
         }
-        end = last.from;
+        rest = &rest[..last.from];
     }
     true
 }

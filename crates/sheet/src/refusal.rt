@@ -1,6 +1,7 @@
 // Why a call refuses. docs/REFUSALS.md has the table.
 ghost use Rattle.std.specs.Prelude.{◌≡◌};
 ghost use Rattle.sheet.specs.Refusals.{told};
+ghost use Rattle.sheet.specs.declared.refusal.Refusal.TheVariants.{NotTogether};
 
 // What does not hold together, in the order in which it is looked at.
 #[derive(Clone, Copy, Debug, PartialEq, Eq)]
@@ -27,8 +28,16 @@ pub enum Refusal {
     UnknownLetter(usize),
 }
 
+impl From<Part> for Refusal {
+    ghost from_gives = { λ part e. e ≡ NotTogether part };
+
+    fn from(part: Part) -> Refusal {
+        Refusal::NotTogether(part)
+    }
+}
+
 impl Refusal {
-    // The refusal's number in the table.
+    // The refusal's number in the table, by hand: variants with values have no numbers of their own.
     pub fn number(&self) -> u8
         ensures { result ≡ (told self.now).0 }
     {

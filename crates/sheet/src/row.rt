@@ -19,3 +19,11 @@ pub struct Item {
     // of the soft clause whose label this is, or was; 0 for plain and fixed items
     pub ordinal: u16,
 }
+
+impl Item {
+    // A live item that is no label.
+    pub const PLAIN: Item = Item {
+        standing: Standing::Plain,
+        ordinal: 0,
+    };
+}

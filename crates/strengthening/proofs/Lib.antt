@@ -1,3 +1,4 @@
+pub mod Alike
 pub mod Yielding
 pub mod Striking
 pub mod Lifting

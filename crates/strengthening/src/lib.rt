@@ -3,93 +3,71 @@
 // meets the longer clause: answers stay what they were, and nothing is recorded.
 #![tactic(auto)]
 
-ghost use Rattle.std.specs.Prelude.{◌≡◌, ℕ, ◌+◌, ◌<◌, ◌≤◌, not, ◌&&◌, List, ◌∷◌, ◌++◌, length, take, ◌==◌, slice_index};
-ghost use Rattle.marking.specs.Marks.{MarksOf};
-ghost use Rattle.places.specs.Spots.{PlaceFound};
+ghost use Rattle.std.specs.Prelude.{◌≡◌, ◌+◌, ◌<◌, ◌≤◌, ◌||◌, ◌∷◌, ◌++◌, length, take, true, ◌==◌, slice_index, ⊤};
+ghost use Rattle.places.specs.Spots.{SpotAt};
 ghost use Rattle.sheet.specs.ClauseSteps.{Step, placed};
 ghost use Rattle.sheet.specs.Clauses.{Laid, clauses};
 ghost use Rattle.sheet.specs.Literals.{has};
 ghost use Rattle.sheet.specs.declared.clause.Tag.TheVariants.{Working};
+ghost use Rattle.sheet.specs.Sheets.{used_clauses, used_row};
 ghost use Rattle.std.specs.List.{between};
 ghost use Rattle.steps.specs.Rewriting.{lacking};
-ghost use Rattle.steps.specs.Strengthening.{StrengtheningRuns};
+ghost use Rattle.steps.specs.Strengthening.{StrengtheningRuns, strengthening};
+ghost use Rattle.steps.proofs.Strengthened.{strengthening_keeps};
 ghost use Rattle.strengthening.specs.Leaving.{leaves, yielded, yields_to};
 
-use checking::holds_together;
 use marking::Marked;
-use meaning::report::{Ending, Report};
+use meaning::report::Report;
 use places::{Found, Test, first_place, is_plain};
 use rules::rule::Rule;
-use sheet::buffers::{Counts, Marks, Phase};
-use sheet::clause::{Place, read, write_header};
-use sheet::literal::opposite;
+use rules::technique::{Technique, repeat};
+use sheet::buffers::Desk;
+use sheet::clause::{Place, write_header};
+use sheet::clauses::Clauses;
+use sheet::literal::{has_literal, opposite};
 use sheet::refusal::Refusal;
 use sheet::row::Item;
 use sheet::words::slide;
 use weight::Weight;
 
-// Whether a literal is neither the denial nor marked.
-fn strays(marked: &Marked, denial: u16, x: u16) -> bool
-    ensures { (lits : List ℕ) → MarksOf marked.now.table lits → result ≡ (not (x == denial) && not (has x lits)) }
+// Whether a literal is the denial or marked.
+fn stays(marked: &Marked, denial: u16, x: u16) -> bool
+    ensures { result ≡ (x == denial || has x marked.now) }
 {
-    x != denial && !marked.has(x)
+    x == denial || marked.has(x)
 }
 
 // Whether a clause with the literals `other` has the denial, and otherwise only marked literals.
 fn yields(marked: &Marked, denial: u16, other: &[u16]) -> bool
-    ensures { (lits : List ℕ) → MarksOf marked.now.table lits → result ≡ yields_to lits denial (record { tag = Working; lits = other.now }) }
+    ensures { result ≡ yields_to marked.now denial (record { tag = Working; lits = other.now }) }
 {
-    let mut denied = false;
-    for x in other {
-        if strays(marked, denial, *x) {
-            return false;
-        }
-        denied |= *x == denial;
-    }
-    denied
+    has_literal(other, denial) && other.iter().all(|x| stays(marked, denial, *x))
 }
 
 // Whether one of the clauses does, with the denial of `w`.
-fn some_yields(sheet: &[u16], fill: usize, marked: &Marked, w: u16) -> bool
-    requires fits { fill ≤ length sheet.now }
-    requires laid { Laid (take fill sheet.now) }
-    ensures { (lits : List ℕ) → MarksOf marked.now.table lits → result ≡ yielded (clauses (take fill sheet.now)) lits w }
+fn some_yields(clauses: &Clauses<'_>, marked: &Marked, w: u16) -> bool
+    ensures { result ≡ yielded clauses.now marked.now w }
 {
     let denial = opposite(w);
-    let mut at = 0;
-    while at < fill {
-        let Place { from, to, end, .. } = read(sheet, fill, at);
-        if yields(marked, denial, &sheet[from..to]) {
-            return true;
-        }
-        at = end;
-    }
-    false
+    clauses
+        .iter()
+        .any(|clause| yields(marked, denial, clause.lits))
 }
 
-// A plain literal may leave where a clause yields its resolvent.
+// A plain literal may leave where a clause yields its resolvent. The search begins anew for each step.
+#[derive(Clone, Copy)]
 struct Leaving {}
 
 impl Test for Leaving {
     ghost test = { λ t. leaves };
 
-    fn passes(&self, row: &[Item], sheet: &[u16], fill: usize, marked: &Marked, w: u16) -> bool {
-        is_plain(row, w) && some_yields(sheet, fill, marked, w)
+    fn passes(&self, row: &[Item], clauses: &Clauses<'_>, marked: &Marked, w: u16) -> bool {
+        is_plain(row, w) && some_yields(clauses, marked, w)
     }
 }
 
-// The first place of a literal that may leave.
-fn first_leaving(sheet: &[u16], row: &[Item], marks: Marks, counts: Counts) -> Option<Found>
-    requires fits { marks.sheet ≤ length sheet.now }
-    requires laid { Laid (take marks.sheet sheet.now) }
-    requires row { counts.items ≤ length row.now }
-    ensures { PlaceFound (leaves (take counts.items row.now) (clauses (take marks.sheet sheet.now))) sheet.now marks.sheet result }
-{
-    let items = counts.items;
-    first_place(&Leaving {}, &row[0..items], sheet, marks.sheet)
-}
-
-// Takes a literal out of its clause: the words behind it move down by one. Returns where they end then.
+// Takes a literal out of its clause: the words behind it move down by one. Returns where they end then. By words, since it moves them.
+#[tactic(auto, using(crate::proofs::Striking::few, crate::proofs::Striking::laid_struck, crate::proofs::Striking::clauses_struck))]
 fn strike(sheet: &mut [u16], fill: usize, found: Found) -> usize
     requires fits { fill ≤ length sheet.old }
     requires front { Laid (take found.at sheet.old) }
@@ -106,43 +84,37 @@ fn strike(sheet: &mut [u16], fill: usize, found: Found) -> usize
     slide(sheet, literal, literal + 1, fill)
 }
 
+impl<W: Weight> Technique<W> for Leaving {
+    type Place = Found;
+
+    ghost step = { λ V k. strengthening };
+
+    ghost fits = { λ V k room t. true };
+
+    ghost ready = { λ s b. ⊤ };
+
+    ghost found = { λ s b p. SpotAt (leaves (used_row b) (used_clauses b)) b.sheet b.marks.sheet p };
+
+    ghost keeps = { λ room. strengthening_keeps W.Weight.lawful };
+
+    fn find(&mut self, desk: &Desk<'_, W>) -> Option<Found> {
+        first_place(self, desk.buffers())
+    }
+
+    fn make(&mut self, desk: &mut Desk<'_, W>, found: Found) -> bool {
+        let fill = desk.marks.sheet;
+        desk.marks.sheet = strike(desk.sheet, fill, found);
+        true
+    }
+}
+
 #[derive(Clone, Copy)]
 pub struct Strengthening {}
 
 impl<W: Weight> Rule<W> for Strengthening {
     ghost runs = { λ r V k room. StrengtheningRuns };
 
-    fn run(
-        &self,
-        sheet: &mut [u16],
-        row: &mut [Item],
-        stack: &mut [u16],
-        weights: &[W],
-        marks: &mut Marks,
-        counts: Counts,
-        limit: u64,
-    ) -> Result<Report, Refusal> {
-        if let Some(part) = holds_together(
-            Phase::Working,
-            sheet,
-            row,
-            stack,
-            weights,
-            *marks,
-            counts,
-        ) {
-            return Err(Refusal::NotTogether(part));
-        }
-        let mut steps = 0;
-        while let Some(found) = first_leaving(sheet, row, *marks, counts) {
-            if steps == limit {
-                let ending = Ending::Limit;
-                return Ok(Report { steps, ending });
-            }
-            marks.sheet = strike(sheet, marks.sheet, found);
-            steps += 1;
-        }
-        let ending = Ending::Done;
-        Ok(Report { steps, ending })
+    fn run(&self, desk: &mut Desk<'_, W>, limit: u64) -> Result<Report, Refusal> {
+        repeat(&mut Leaving {}, desk, limit)
     }
 }

@@ -1,5 +1,5 @@
 -- A merge that looks whether ascending words are among others. Assumes nothing.
-use Rattle.std.proofs.Common.{◌≡◌, ℕ, zero, suc, ◌+◌, ◌<◌, ◌≤◌, false, ◌&&◌, List, [], ◌∷◌, length, get_or, drop, sym, refl, ap, subst, arith}
+use Rattle.std.proofs.Common.{◌≡◌, ℕ, zero, suc, ◌+◌, ◌<◌, ◌≤◌, false, ◌&&◌, eqb, List, [], ◌∷◌, length, get_or, drop, sym, refl, ap, subst, arith}
 use Rattle.std.specs.List.{AllByRecursion}
 use Rattle.std.proofs.lemmas.List.{drop_more, drop_all}
 use Rattle.std.proofs.ByRecursion.{All-weaker}
@@ -27,34 +27,24 @@ inside_skip y (x ∷ xs) ys above =
     let other = ne_eqb y x (λ same. omega arith) in
     rw (rest, other)
 
--- Cursors at i and j.
-module _ (xs ys : List ℕ) (i j : ℕ) (some : i < length xs) where
-  pub inside_past : length ys ≤ j → inside (drop i xs) (drop j ys) ≡ false
-  inside_past past = rw (drop_more xs i 0 some, drop_all j ys past)
+-- none is left to look at
+pub inside_past : (xs ys : List ℕ) (i : ℕ) → length ys ≤ i → eqb (length xs) 0 ≡ inside xs (drop i ys)
+inside_past [] ys i past = refl
+inside_past (x ∷ xs) ys i past = rw (drop_all i ys past) (ne_eqb (length (x ∷ xs)) 0 (λ none. omega arith))
 
-  module _ (more : j < length ys) where
-    x : ℕ
-    x = get_or xs i 0
+-- The words from i on of ys are looked at, and x and xs are left.
+module _ (x : ℕ) (xs ys : List ℕ) (i : ℕ) (more : i < length ys) where
+  pub inside_stop : Rising ys → x < get_or ys i 0 → inside (x ∷ xs) (drop i ys) ≡ false
+  inside_stop up less =
+      let here = drop_more ys i 0 more in
+      let rest = rw here at (rising_drop i ys up) in
+      let none = has_below x (get_or ys i 0 ∷ drop (i + 1) ys) (less, All-weaker _ _ (λ z above. omega arith) (drop (i + 1) ys) rest.0) in
+      rw here (ap (λ b. b && inside xs (get_or ys i 0 ∷ drop (i + 1) ys)) none)
 
-    y : ℕ
-    y = get_or ys j 0
+  pub inside_behind : Rising (x ∷ xs) → get_or ys i 0 < x → inside (x ∷ xs) (drop i ys) ≡ inside (x ∷ xs) (drop (i + 1) ys)
+  inside_behind up less = rw (drop_more ys i 0 more) (inside_skip (get_or ys i 0) (x ∷ xs) (drop (i + 1) ys) (less, All-weaker _ _ (λ z above. omega arith) xs up.0))
 
-    pub inside_stop : Rising ys → get_or xs i 0 < get_or ys j 0 → inside (drop i xs) (drop j ys) ≡ false
-    inside_stop up less =
-        let here = drop_more ys j 0 more in
-        let rest = rw here at (rising_drop j ys up) in
-        let none = has_below (get_or xs i 0) (get_or ys j 0 ∷ drop (j + 1) ys) (less, All-weaker _ _ (λ z above. omega arith) (drop (j + 1) ys) rest.0) in
-        rw (drop_more xs i 0 some, here) (ap (λ b. b && inside (drop (i + 1) xs) (get_or ys j 0 ∷ drop (j + 1) ys)) none)
-
-    pub inside_behind : Rising xs → get_or ys j 0 < get_or xs i 0 → inside (drop i xs) (drop j ys) ≡ inside (drop i xs) (drop (j + 1) ys)
-    inside_behind up less =
-        let here = drop_more xs i 0 some in
-        let rest = rw here at (rising_drop i xs up) in
-        rw (here, drop_more ys j 0 more) (inside_skip (get_or ys j 0) (get_or xs i 0 ∷ drop (i + 1) xs) (drop (j + 1) ys) (less, All-weaker _ _ (λ z above. omega arith) (drop (i + 1) xs) rest.0))
-
-    pub inside_both : Rising xs → get_or xs i 0 ≡ get_or ys j 0 → inside (drop i xs) (drop j ys) ≡ inside (drop (i + 1) xs) (drop (j + 1) ys)
-    inside_both up same =
-        let here = drop_more xs i 0 some in
-        let rest = rw here at (rising_drop i xs up) in
-        let found = eq-eqb (get_or ys j 0) (get_or xs i 0) (sym same) in
-        rw (here, drop_more ys j 0 more, found) (inside_skip (get_or ys j 0) (drop (i + 1) xs) (drop (j + 1) ys) (subst (λ z. AllByRecursion (λ w. z < w) (drop (i + 1) xs)) same rest.0))
+  pub inside_both : Rising (x ∷ xs) → x ≡ get_or ys i 0 → inside (x ∷ xs) (drop i ys) ≡ inside xs (drop (i + 1) ys)
+  inside_both up same =
+      let found = eq-eqb (get_or ys i 0) x (sym same) in
+      rw (drop_more ys i 0 more, found) (inside_skip (get_or ys i 0) xs (drop (i + 1) ys) (subst (λ z. AllByRecursion (λ w. z < w) xs) same up.0))

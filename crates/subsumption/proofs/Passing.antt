@@ -1,5 +1,5 @@
 -- One pass over the clauses: those up to a mark are kept, those from a cursor on are still to come. Assumes nothing.
-use Rattle.std.proofs.Common.{◌≡◌, ℕ, ◌+◌, ◌-◌, ◌<◌, ◌≤◌, Bool, true, false, List, [], ◌∷◌, ◌++◌, take, drop, Some, sym, refl, ap, ◌∙◌, subst, arith}
+use Rattle.std.proofs.Common.{◌≡◌, ℕ, ◌+◌, ◌-◌, ◌<◌, ◌≤◌, Bool, true, false, List, [], ◌∷◌, ◌++◌, take, drop, Some, sym, refl, ap, ◌∙◌, ap₂, subst, arith}
 use Rattle.std.specs.List.{between}
 use Rattle.std.proofs.lemmas.List.{append_assoc, append-nil}
 use Rattle.sheet.specs.declared.clause.Place.{Place}
@@ -17,6 +17,10 @@ use Rattle.subsumption.proofs.Removals.{NoneSubsumed, none_without, none_more, o
 -- it takes no words
 abbrev pub fits_always : List Clause → Bool
 fits_always cs = true
+
+-- a clause looked at among the clauses before it and those behind it
+pub looked_at : (c : Clause) {xs before ys later : List Clause} {r is : Bool} → r ≡ is_subsumed xs c ys → xs ≡ before → ys ≡ later → r ≡ is → is_subsumed before c later ≡ is
+looked_at c told front behind is = ap₂ (λ (cs ds : List Clause). is_subsumed cs c ds) (sym front) (sym behind) ∙ sym told ∙ is
 
 pub record Passing (s : List ℕ) (fill limit : ℕ) (cur : List ℕ) (out at steps : ℕ) : Type 0 where
   pub low : out ≤ at
@@ -40,9 +44,6 @@ passing_none s fill limit laid =
     }
 
 module _ {s : List ℕ} {fill limit : ℕ} {cur : List ℕ} {out at steps : ℕ} (h : Passing s fill limit cur out at steps) where
-  pub passing_spent : steps ≤ limit
-  passing_spent = h.turning.spent
-
   pub passing_done : fill ≤ at → outcome steps Done (clauses (take out cur)) ≡ repeated_step subsumed_once fits_always limit (clauses (take fill s))
   passing_done past =
       let end = clauses_end cur at fill past in

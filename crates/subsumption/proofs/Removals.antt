@@ -1,12 +1,18 @@
 -- The search for a subsumed clause goes on where one was removed: a removal makes no other clause subsumed. Assumes nothing.
-use Rattle.std.proofs.Common.{◌≡◌, Bool, true, false, List, [], ◌∷◌, ◌++◌, Some, None, sym, ap, ◌∙◌}
+use Rattle.std.proofs.Common.{◌≡◌, Bool, true, false, ◌||◌, List, [], ◌∷◌, ◌++◌, Some, None, sym, refl, ap, ◌∙◌}
 use Rattle.std.specs.Option.{option_or}
 use Rattle.std.specs.Bool.{then_some}
+use Rattle.std.specs.List.{list_any}
 use Rattle.std.proofs.lemmas.List.{append_assoc, append-nil}
 use Rattle.std.proofs.lemmas.Bool.{or_from, or_parts}
 use Rattle.sheet.specs.Clauses.{Clause}
 use Rattle.steps.specs.Places.{some, first_made}
 use Rattle.steps.specs.Subsumption.{under, strictly_under, is_subsumed, without_subsumed, subsumed_once}
+
+-- `any`, by the definition here
+pub some_is_any : {X : Type 0} (test : X → Bool) (xs : List X) → list_any test xs ≡ some test xs
+some_is_any test [] = refl
+some_is_any test (x ∷ xs) = ap (λ b. test x || b) (some_is_any test xs)
 
 -- none of ys is subsumed, with xs before them and rest behind them
 abbrev pub NoneSubsumed : List Clause → List Clause → List Clause → Type 0

@@ -1,9 +1,10 @@
 -- What a bill comes to, and a loop that adds it up. Assumes nothing.
-use Rattle.std.proofs.Common.{◌≡◌, ℕ, suc, ◌+◌, ◌<◌, ◌≤◌, Bool, true, false, cond, List, [], ◌∷◌, map, length, get_or, drop, sym, refl, ap, ◌∙◌, subst, ap₂, inl, inr, add-one}
+use Rattle.std.proofs.Common.{◌≡◌, ℕ, suc, ◌+◌, ◌<◌, ◌≤◌, Bool, true, false, cond, List, [], ◌∷◌, map, length, get_or, drop, sym, refl, ap, ◌∙◌, ap₂, inl, inr, add-one}
 use Rattle.std.proofs.lemmas.List.{at_drop_more, at_drop_all, get_or-map}
 use Rattle.std.proofs.ByRecursion.{All-get_or}
 use Rattle.std.proofs.lemmas.Bool.{cases_Bool, both_ways, and_parts, cond-true, cond-false, false≢true}
 use Rattle.weight.specs.Kind.{Kind, Lawful}
+use Rattle.weight.specs.declared.kind.Weight.{Ghosts}
 use Rattle.weight.proofs.Orders.{zero_sum}
 use Rattle.sheet.specs.declared.row.Item.{Item}
 use Rattle.sheet.specs.declared.row.Standing.{Standing}
@@ -13,7 +14,8 @@ use Rattle.sheet.specs.Together.{OrdinalOf}
 use Rattle.meaning.specs.Answers.{Values, weight_of, charge, row_cost, paid_cost}
 use Rattle.unwinding.specs.declared.costs.Bill.{Bill}
 use Rattle.unwinding.specs.declared.costs.Bill.TheVariants.{Sheet, Plan}
-use Rattle.unwinding.specs.Charges.{Weighed, billed, charged}
+use Rattle.unwinding.specs.Bytes.{values_of}
+use Rattle.unwinding.specs.Charges.{Weighed, charged, cost_in}
 
 -- only labels are charged
 pub charged_label : (bill : Bill) (s : Standing) (is_yes : Bool) → charged bill s is_yes ≡ true → is_label s ≡ true
@@ -35,9 +37,10 @@ pub charged_ordinal : (bill : Bill) (softs : ℕ) (row : List Item) (i : ℕ) (d
 charged_ordinal bill softs row i d is_yes fits inside is =
     label_ordinal softs (get_or row i d).standing (get_or row i d).ordinal (All-get_or _ row i d inside fits) (charged_label bill _ is_yes is)
 
--- a test by the value that was read
-pub charged_at : (bill : Bill) (s : Standing) {is_yes value test answer : Bool} → is_yes ≡ value → test ≡ charged bill s is_yes → test ≡ answer → charged bill s value ≡ answer
-charged_at bill s read tested came = ap (charged bill s) (sym read) ∙ sym tested ∙ came
+-- What a bill comes to for a row whose first item is item i.
+abbrev pub billed : {V : Type 0} → Kind V → Bill → List V → Values → ℕ → List Item → V
+billed k bill weights v i [] = k.zero
+billed k bill weights v i (x ∷ xs) = k.sum (cond (charged bill x.standing (v i)) (weight_of k weights x.ordinal) k.zero) (billed k bill weights v (suc i) xs)
 
 module _ {V : Type 0} (k : Kind V) where
   -- a weight by the ordinal that was read
@@ -59,13 +62,15 @@ module _ {V : Type 0} (k : Kind V) where
   paid_cost_billed weights v i [] = refl
   paid_cost_billed weights v i (x ∷ xs) = ap (k.sum _) (paid_cost_billed weights v (suc i) xs)
 
+-- each cost is what its bill comes to
+pub cost_billed : {W : Type 0} (m : Ghosts W) (bill : Bill) (row : List Item) (weights : List W) (answer : List ℕ) → billed m.kind bill (map m.value weights) (values_of answer) 1 row ≡ cost_in m bill row weights answer
+cost_billed m Sheet row weights answer = sym (row_cost_billed m.kind (map m.value weights) (values_of answer) 1 row)
+cost_billed m Plan row weights answer = sym (paid_cost_billed m.kind (map m.value weights) (values_of answer) 1 row)
+
 -- The sum so far, within the ceiling, with what the rest comes to is what all comes to.
 pub record Billing {V : Type 0} (k : Kind V) (bill : Bill) (weights : List V) (v : Values) (row : List Item) (i : ℕ) (sum : V) : Type 0 where
   pub whole : k.sum sum (billed k bill weights v (i + 1) (drop i row)) ≡ billed k bill weights v 1 row
   pub within : k.within sum ≡ true
-
-pub billing_same : {V : Type 0} {k : Kind V} {bill : Bill} {weights : List V} {v : Values} {row : List Item} {i : ℕ} {sum now : V} → now ≡ sum → Billing k bill weights v row i sum → Billing k bill weights v row i now
-billing_same {V} {k} {bill} {weights} {v} {row} {i} e h = subst (Billing k bill weights v row i) (sym e) h
 
 module _ {V : Type 0} {k : Kind V} (laws : Lawful k) where
   pub billing_none : (bill : Bill) (weights : List V) (v : Values) (row : List Item) (sum : V) → sum ≡ k.zero → Billing k bill weights v row 0 sum
@@ -117,3 +122,6 @@ module _ {V : Type 0} {k : Kind V} (laws : Lawful k) where
           | inl h ↦ absurd (both_ways (k.within (k.sum sum w)) past (laws.part_within (k.sum sum w) rest (ap k.within (ap (λ x. k.sum x rest) adds ∙ split) ∙ h)))
           | inr h ↦ h
         ]
+
+-- what a loop that adds up stands on
+pub ruleset adding = (cost_billed, charged_ordinal, weight_at, billing_none, billing_free, billing_more, billing_past, billing_all)

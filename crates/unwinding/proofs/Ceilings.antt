@@ -15,8 +15,8 @@ use Rattle.sheet.specs.Together.{Distinct, HoldsTogether}
 use Rattle.meaning.specs.Answers.{Values, weight_of, row_cost, paid_cost}
 use Rattle.unwinding.specs.declared.costs.Bill.{Bill}
 use Rattle.unwinding.specs.declared.costs.Bill.TheVariants.{Sheet, Plan}
-use Rattle.unwinding.specs.Charges.{Weighed, billed, charged}
-use Rattle.unwinding.proofs.Billing.{charged_label, label_ordinal, row_cost_billed, paid_cost_billed}
+use Rattle.unwinding.specs.Charges.{Weighed, charged}
+use Rattle.unwinding.proofs.Billing.{billed, charged_label, label_ordinal, row_cost_billed, paid_cost_billed}
 use Rattle.unwinding.proofs.Parts.{Part, part_within, part_zero, part_self, part_trans, part_sum, distinct_part}
 
 labels_ranged : (softs : ℕ) (row : List Item) → Weighed softs row → AllByRecursion (λ n. n < softs) (label_ordinals row)

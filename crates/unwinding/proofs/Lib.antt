@@ -1,7 +1,5 @@
 pub mod Searching
 pub mod Meeting
-pub mod Reading
-pub mod Resetting
 pub mod Mending
 pub mod Billing
 pub mod Parts

@@ -1,5 +1,5 @@
 -- Answers as bytes, one for each item, and searches that answer a number from 0. Assumes nothing.
-use Rattle.std.specs.Prelude.{ℕ, zero, suc, ◌+◌, ◌≤◌, Bool, false, cond, not, List, [], ◌∷◌, Some, None, Option, ◌==◌, nat_lt, slice_index}
+use Rattle.std.specs.Prelude.{ℕ, zero, suc, ◌≤◌, Bool, false, not, List, [], Option, ◌==◌, nat_lt, position, slice_index}
 use Rattle.std.specs.List.{AllByRecursion}
 use Rattle.sheet.specs.Clauses.{Clause}
 use Rattle.sheet.specs.Records.{Record}
@@ -16,19 +16,14 @@ values_of bs (suc i) = slice_index bs i == 1
 abbrev pub Bits : List ℕ → Type 0
 Bits bs = AllByRecursion (λ b. b ≤ 1) bs
 
--- the number of the first that passes a test, in a list whose first has number i
-abbrev pub first_from : {X : Type 0} → ℕ → (X → Bool) → List X → Option ℕ
-first_from i test [] = None
-first_from i test (x ∷ xs) = cond (test x) (Some i) (first_from (i + 1) test xs)
-
 abbrev pub first_above_one : List ℕ → Option ℕ
-first_above_one bs = first_from 0 (nat_lt 1) bs
+first_above_one bs = position (nat_lt 1) bs
 
 abbrev pub is_unmet : Values → Clause → Bool
 is_unmet v c = not (met v c.lits)
 
 abbrev pub first_unmet : Values → List Clause → Option ℕ
-first_unmet v cs = first_from 0 (is_unmet v) cs
+first_unmet v cs = position (is_unmet v) cs
 
 -- all of a record that unwinding looks at
 abbrev pub record_of : List ℕ → ℕ → Record

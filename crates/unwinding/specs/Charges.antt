@@ -1,14 +1,13 @@
 -- The labels that a cost charges, and what it comes to. Assumes nothing.
-use Rattle.std.specs.Prelude.{ℕ, suc, Bool, true, false, cond, ◌&&◌, List, [], ◌∷◌, map}
+use Rattle.std.specs.Prelude.{ℕ, Bool, true, false, ◌&&◌, List, map}
 use Rattle.std.specs.List.{AllByRecursion}
-use Rattle.weight.specs.Kind.{Kind}
 use Rattle.weight.specs.declared.kind.Weight.{Ghosts}
 use Rattle.sheet.specs.Rows.{is_label}
 use Rattle.sheet.specs.Together.{OrdinalOf}
 use Rattle.sheet.specs.declared.row.Item.{Item}
 use Rattle.sheet.specs.declared.row.Standing.{Standing}
 use Rattle.sheet.specs.declared.row.Standing.TheVariants.{Plain, Label, Fixed, Covered, Forced}
-use Rattle.meaning.specs.Answers.{Values, weight_of, row_cost, paid_cost}
+use Rattle.meaning.specs.Answers.{row_cost, paid_cost}
 use Rattle.unwinding.specs.Bytes.{values_of}
 use Rattle.unwinding.specs.declared.costs.Bill.{Bill}
 use Rattle.unwinding.specs.declared.costs.Bill.TheVariants.{Sheet, Plan}
@@ -22,22 +21,19 @@ charged Sheet Covered is_yes = false
 charged Sheet Forced is_yes = true
 charged Plan s is_yes = is_label s && is_yes
 
--- what a bill comes to for a row whose first item is item i
-abbrev pub billed : {V : Type 0} → Kind V → Bill → List V → Values → ℕ → List Item → V
-billed k bill weights v i [] = k.zero
-billed k bill weights v i (x ∷ xs) = k.sum (cond (charged bill x.standing (v i)) (weight_of k weights x.ordinal) k.zero) (billed k bill weights v (suc i) xs)
-
 -- every label has one of the weights, and any other item the ordinal 0
 abbrev pub Weighed : ℕ → List Item → Type 0
 Weighed softs row = AllByRecursion (λ x. OrdinalOf softs x.standing x.ordinal) row
 
--- What a bill comes to, and the two costs, for a lent row, lent weights and an answer in bytes.
-
-abbrev pub billed_in : {W : Type 0} (m : Ghosts W) → Bill → List Item → List W → List ℕ → m.Value
-billed_in m bill row weights answer = billed m.kind bill (map m.value weights) (values_of answer) 1 row
+-- The two costs, for a lent row, lent weights and an answer in bytes.
 
 abbrev pub sheet_cost_in : {W : Type 0} (m : Ghosts W) → List Item → List W → List ℕ → m.Value
 sheet_cost_in m row weights answer = row_cost m.kind (map m.value weights) (values_of answer) 1 row
 
 abbrev pub paid_cost_in : {W : Type 0} (m : Ghosts W) → List Item → List W → List ℕ → m.Value
 paid_cost_in m row weights answer = paid_cost m.kind (map m.value weights) (values_of answer) 1 row
+
+-- the cost that is asked for
+abbrev pub cost_in : {W : Type 0} (m : Ghosts W) → Bill → List Item → List W → List ℕ → m.Value
+cost_in m Sheet row weights answer = sheet_cost_in m row weights answer
+cost_in m Plan row weights answer = paid_cost_in m row weights answer

@@ -1,47 +1,37 @@
 // Whether an answer meets clauses.
-ghost use Rattle.std.specs.Prelude.{◌≡◌, ◌≤◌, length, take};
+ghost use Rattle.std.specs.Prelude.{◌≡◌};
 ghost use Rattle.meaning.specs.Answers.{is_true, met};
 ghost use Rattle.sheet.specs.Clauses.{Laid, clauses};
 ghost use Rattle.unwinding.specs.Bytes.{first_unmet, values_of};
 
 use crate::bytes::is_yes;
-use sheet::clause::{Place, read};
-use sheet::literal::SIGN;
+use sheet::clauses::Clauses;
+use sheet::literal::{is_denied, item};
 
 fn is_true(w: u16, answer: &[u8]) -> bool
     ensures { result ≡ is_true (values_of answer.now) w }
 {
-    let yes = is_yes(answer, usize::from(w % SIGN));
-    if w >= SIGN { !yes } else { yes }
+    is_yes(answer, item(w)) != is_denied(w)
 }
 
 // Whether one of the literals is true.
 pub fn is_met(lits: &[u16], answer: &[u8]) -> bool
     ensures { result ≡ met (values_of answer.now) lits.now }
 {
-    for w in lits {
-        if is_true(*w, answer) {
-            return true;
-        }
-    }
-    false
+    lits.iter().any(|w| is_true(*w, answer))
 }
 
 // The number, from 0, of the first clause that the answer does not meet.
-pub fn first_unmet(sheet: &[u16], fill: usize, answer: &[u8]) -> Option<usize>
-    requires fits { fill ≤ length sheet.now }
-    requires laid { Laid (take fill sheet.now) }
-    ensures { result ≡ first_unmet (values_of answer.now) (clauses (take fill sheet.now)) }
+// It is lent the words, since a `Clauses` does not say that the number of what it holds fits a `usize`.
+#[tactic(auto, using(crate::proofs::Meeting::first_unmet_from))]
+pub fn first_unmet(sheet: &[u16], answer: &[u8]) -> Option<usize>
+    requires { Laid sheet.now }
+    ensures { result ≡ first_unmet (values_of answer.now) (clauses sheet.now) }
 {
-    let mut at = 0;
-    let mut number = 0;
-    while at < fill {
-        let Place { from, to, end, .. } = read(sheet, fill, at);
-        if !is_met(&sheet[from..to], answer) {
+    for (number, clause) in Clauses::of(sheet).enumerate() {
+        if !is_met(clause.lits, answer) {
             return Some(number);
         }
-        at = end;
-        number += 1;
     }
     None
 }

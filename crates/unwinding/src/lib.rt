@@ -8,5 +8,5 @@ mod records;
 
 pub use self::bytes::first_above_one;
 pub use self::clauses::first_unmet;
-pub use self::costs::{paid_cost, sheet_cost};
+pub use self::costs::{Bill, cost};
 pub use self::records::unwind;

@@ -1,7 +1,8 @@
 // The garage's rules and wishes, sent as clauses to a gathering sheet, and closed.
 use crate::show::Sent;
 use garage::figures::Text;
-use garage::level::{ITEMS, RULES, SLIPS, WISHES, Wish};
+use garage::kinds::Weighting;
+use garage::level::{ITEMS, RULES, SLIPS, WISHES};
 use session::claim::Claim;
 use session::gathering::Gathering;
 use session::gathering::open::open;
@@ -23,82 +24,81 @@ const CLOSING: &str =
 const STACK: [u16; 0] = [];
 
 // The buffers that are lent to the calls.
+#[derive(Drop)]
 struct Desk {
     sheet: [u16; 128],
     row: [Item; 24],
     weights: [Whole; 8],
 }
 
-fn empty_desk() -> Desk {
-    Desk {
-        sheet: [0; 128],
-        row: [Item {
-            standing: Standing::Plain,
-            ordinal: 0,
-        }; 24],
-        weights: [Whole { units: 0 }; 8],
+impl Desk {
+    fn empty() -> Desk {
+        Desk {
+            sheet: [0; 128],
+            row: [Item::PLAIN; 24],
+            weights: [Whole { units: 0 }; 8],
+        }
+    }
+
+    fn open(&mut self) -> Result<Gathering, Refusal> {
+        open(ITEMS, &self.sheet, &mut self.row, &STACK, &self.weights)
+    }
+
+    // How many words an accepted clause takes.
+    fn add(
+        &mut self,
+        gathering: &mut Gathering,
+        literals: &[i32],
+        claim: Claim<Whole>,
+    ) -> Result<usize, Refusal> {
+        let before = gathering.words();
+        gathering.add(
+            literals,
+            claim,
+            &mut self.sheet,
+            &self.row,
+            &STACK,
+            &mut self.weights,
+        )?;
+        Ok(gathering.words().saturating_sub(before))
+    }
+
+    // The item that is the label of this ordinal.
+    fn label_of(&self, ordinal: usize) -> Option<usize> {
+        let place = self.row.iter().position(|item| {
+            item.standing == Standing::Label && usize::from(item.ordinal) == ordinal
+        })?;
+        Some(place + 1)
     }
 }
 
 pub fn tell(rt: &HostRuntime) -> io::Result<()> {
     rt.println(OPENING)?;
-    let Desk {
-        mut sheet,
-        mut row,
-        mut weights,
-    } = empty_desk();
-    match open(ITEMS, &sheet, &mut row, &STACK, &weights) {
+    let mut desk = Desk::empty();
+    match desk.open() {
         Ok(mut gathering) => {
-            send_all(rt, &mut gathering, &mut sheet, &row, &mut weights)?;
-            close(rt, gathering, &mut sheet, &mut row, &weights)
+            send_rules(rt, &mut gathering, &mut desk)?;
+            send_wishes(rt, &mut gathering, &mut desk)?;
+            show_words(rt, gathering.words())?;
+            close(rt, gathering, &mut desk)
         }
         Err(refusal) => show_refusal(rt, &refusal),
     }
 }
 
-fn send_all(
-    rt: &HostRuntime,
-    gathering: &mut Gathering,
-    sheet: &mut [u16],
-    row: &[Item],
-    weights: &mut [Whole],
-) -> io::Result<()> {
-    send_rules(rt, gathering, sheet, row, weights)?;
-    send_wishes(rt, &WISHES, gathering, sheet, row, weights)?;
-    send_wishes(rt, &SLIPS, gathering, sheet, row, weights)?;
-    show_words(rt, gathering.words())
-}
-
-fn send_rules(
-    rt: &HostRuntime,
-    gathering: &mut Gathering,
-    sheet: &mut [u16],
-    row: &[Item],
-    weights: &mut [Whole],
-) -> io::Result<()> {
+fn send_rules(rt: &HostRuntime, gathering: &mut Gathering, desk: &mut Desk) -> io::Result<()> {
     for rule in &RULES {
-        let before = gathering.words();
-        let answer = gathering.add(rule.literals, Claim::Hard, sheet, row, &STACK, weights);
-        let words = gathering.words().saturating_sub(before);
-        show_sent(rt, "rule", rule.text, rule.literals, answer, words)?;
+        let answer = desk.add(gathering, rule.literals, Claim::Hard);
+        show_sent(rt, "rule", rule.text, rule.literals, answer)?;
     }
     Ok(())
 }
 
-fn send_wishes(
-    rt: &HostRuntime,
-    wishes: &[Wish],
-    gathering: &mut Gathering,
-    sheet: &mut [u16],
-    row: &[Item],
-    weights: &mut [Whole],
-) -> io::Result<()> {
-    for wish in wishes {
-        let before = gathering.words();
-        let claim = Claim::Soft(Whole { units: wish.points });
-        let answer = gathering.add(wish.literals, claim, sheet, row, &STACK, weights);
-        let words = gathering.words().saturating_sub(before);
-        show_sent(rt, "wish", wish.text, wish.literals, answer, words)?;
+fn send_wishes(rt: &HostRuntime, gathering: &mut Gathering, desk: &mut Desk) -> io::Result<()> {
+    for wish in WISHES.iter().chain(&SLIPS) {
+        let claim = Claim::Soft(Whole::of(wish));
+        let answer = desk.add(gathering, wish.literals, claim);
+        show_sent(rt, "wish", wish.text, wish.literals, answer)?;
     }
     Ok(())
 }
@@ -108,21 +108,17 @@ fn show_sent(
     kind: &str,
     text: &str,
     literals: &'static [i32],
-    answer: Result<(), Refusal>,
-    words: usize,
+    answer: Result<usize, Refusal>,
 ) -> io::Result<()> {
     let sent = Text::of(Sent(literals));
     print!(rt; "  {kind}  {text:<34}  {:<14}  ", sent.as_str())?;
-    show_answer(rt, answer, words)
-}
-
-fn show_answer(rt: &HostRuntime, answer: Result<(), Refusal>, words: usize) -> io::Result<()> {
     match answer {
-        Ok(()) => println!(rt; "accepted, {words} words"),
+        Ok(words) => println!(rt; "accepted, {words} words"),
         Err(refusal) => show_refusal(rt, &refusal),
     }
 }
 
+// No `Display`: the type is another crate's, and one of our own around it is no plainer.
 fn show_refusal(rt: &HostRuntime, refusal: &Refusal) -> io::Result<()> {
     let number = refusal.number();
     let value = refusal.value();
@@ -133,53 +129,32 @@ fn show_words(rt: &HostRuntime, words: usize) -> io::Result<()> {
     println!(rt; "The sheet now has {words} words.\n")
 }
 
-fn close(
-    rt: &HostRuntime,
-    gathering: Gathering,
-    sheet: &mut [u16],
-    row: &mut [Item],
-    weights: &[Whole],
-) -> io::Result<()> {
+fn close(rt: &HostRuntime, gathering: Gathering, desk: &mut Desk) -> io::Result<()> {
     rt.println(CLOSING)?;
-    match gathering.close(sheet, row, &STACK, weights) {
-        Ok(working) => show_labels(rt, &working, row),
-        Err(back) => {
-            let (_gathering, refusal) = back;
-            show_refusal(rt, &refusal)
-        }
+    match gathering.close(&mut desk.sheet, &mut desk.row, &STACK, &desk.weights) {
+        Ok(working) => show_labels(rt, &working, desk),
+        Err((_, refusal)) => show_refusal(rt, &refusal),
     }
 }
 
-fn show_labels(rt: &HostRuntime, working: &Working, row: &[Item]) -> io::Result<()> {
+fn show_labels(rt: &HostRuntime, working: &Working, desk: &Desk) -> io::Result<()> {
     for (ordinal, wish) in WISHES.iter().enumerate() {
-        show_label(rt, ordinal + 1, wish.text, label_of(row, ordinal))?;
+        show_label(rt, ordinal + 1, wish.text, desk.label_of(ordinal))?;
     }
     show_closed(rt, working.words(), working.items())
 }
 
-fn show_label(rt: &HostRuntime, number: usize, text: &str, label: usize) -> io::Result<()> {
-    let origin = if label as u64 <= ITEMS {
-        "its own item"
-    } else {
-        "a fresh label"
-    };
-    println!(rt; "  {number}  {text:<29}  {origin}, {label}")
+fn show_label(rt: &HostRuntime, number: usize, text: &str, label: Option<usize>) -> io::Result<()> {
+    print!(rt; "  {number}  {text:<29}  ")?;
+    match label {
+        Some(label) if label as u64 <= ITEMS => println!(rt; "its own item, {label}"),
+        Some(label) => println!(rt; "a fresh label, {label}"),
+        None => rt.println("no label"),
+    }
 }
 
 fn show_closed(rt: &HostRuntime, words: usize, items: usize) -> io::Result<()> {
     println!(rt;
         "The sheet now has {words} words and {items} items. A wish that lends its own item leaves the sheet.\n"
     )
-}
-
-// The item that is the label of this ordinal, or 0.
-fn label_of(row: &[Item], ordinal: usize) -> usize {
-    for (i, item) in row.iter().enumerate() {
-        if let Standing::Label = item.standing {
-            if usize::from(item.ordinal) == ordinal {
-                return i + 1;
-            }
-        }
-    }
-    0
 }

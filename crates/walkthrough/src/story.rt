@@ -1,9 +1,8 @@
 // What the program says, from the garage to the verdict.
-use anyhow::Context;
 use garage::figures::{Grouped, Text};
 use garage::kinds::Weighting;
 use garage::level::{BAYS, HOLDERS, NORTH, Plan, SOUTH, WISHES, Wish};
-use garage::weigh::{TOO_LARGE, Tally, compare, cost};
+use garage::weigh::{Tally, compare, cost};
 use std::cmp::Ordering;
 use std::io;
 use weight::{Tier, Whole};
@@ -109,7 +108,7 @@ fn walk<W: Weighting>(rt: &HostRuntime, plan: &Plan) -> anyhow::Result<Tally<W>>
         let weight = W::of(wish);
         let kept = plan.keeps(wish);
         if !kept {
-            tally = tally.plus(&weight).ok().context(TOO_LARGE)?;
+            tally = tally.plus(&weight)?;
         }
         show_wish(rt, i + 1, wish, kept, &weight, &tally)?;
     }

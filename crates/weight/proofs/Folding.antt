@@ -38,9 +38,6 @@ module _ {V : Type 0} {k : Kind V} (laws : Lawful k) {X : Type 0} (worth : X →
   so_far : (xs : List X) (i : ℕ) (v : V) → v ≡ total_of k worth (take i xs) → k.within v ≡ true → SoFar xs i v
   so_far xs i v is fits = (is, fits, λ end. let all = is ∙ ap (total_of k worth) (take_all i xs end) in (ap k.within (sym all) ∙ fits, all))
 
-  pub so_far_none : (xs : List X) (v : V) → v ≡ k.zero → SoFar xs 0 v
-  so_far_none xs v is = so_far xs 0 v is (ap k.within is ∙ laws.zero_within)
-
   module _ (xs : List X) (i : ℕ) (v : V) (x : X) (here : SoFar xs i v) (inside : i < length xs) (read : x ≡ get_or xs i x) where
     next : k.sum v (worth x) ≡ total_of k worth (take (i + 1) xs)
     next = ap (λ u. k.sum u (worth x)) here.0 ∙ total_more xs i x inside read

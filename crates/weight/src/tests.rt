@@ -19,13 +19,13 @@ fn the_ceiling_is_reached_but_not_passed(rt: HostRuntime) {
     };
     assert_eq!(rt; total(&[below, ONE]), Ok(CEILING));
     assert_eq!(rt; total(&[CEILING, NOTHING]), Ok(CEILING));
-    assert_eq!(rt; total(&[CEILING, ONE]), Err(TooLarge {}));
+    assert_eq!(rt; total(&[CEILING, ONE]), Err(TooLarge));
 }
 
 #[test]
 fn a_lone_weight_above_the_ceiling_is_too_large(rt: HostRuntime) {
-    assert_eq!(rt; total(&[BEYOND]), Err(TooLarge {}));
-    assert_eq!(rt; total(&[BEYOND, ONE]), Err(TooLarge {}));
+    assert_eq!(rt; total(&[BEYOND]), Err(TooLarge));
+    assert_eq!(rt; total(&[BEYOND, ONE]), Err(TooLarge));
     assert!(rt; ONE.at_most(&BEYOND) && !BEYOND.at_most(&ONE));
 }
 
@@ -46,7 +46,7 @@ fn each_part_of_a_tier_has_its_own_ceiling(rt: HostRuntime) {
         below: ONE,
     };
     assert_eq!(rt; total(&[full]), Ok(full));
-    assert_eq!(rt; total(&[full, more]), Err(TooLarge {}));
+    assert_eq!(rt; total(&[full, more]), Err(TooLarge));
     assert!(rt; more.at_most(&full) && !full.at_most(&more));
 }
 

@@ -35,10 +35,6 @@ impl<L: Weight> Weight for Tier<L> {
     }
 
     fn at_most(&self, other: &Tier<L>) -> bool {
-        if self.above == other.above {
-            self.below.at_most(&other.below)
-        } else {
-            self.above.at_most(&other.above)
-        }
+        self.above < other.above || self.above == other.above && self.below.at_most(&other.below)
     }
 }

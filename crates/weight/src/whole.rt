@@ -5,14 +5,13 @@ ghost use Rattle.std.proofs.Common.{rules};
 
 use crate::kind::{TooLarge, Weight};
 
-#[derive(Clone, Copy, Debug, PartialEq, Eq)]
+#[derive(Clone, Copy, Debug, PartialEq, Eq, PartialOrd, Ord)]
 pub struct Whole {
     pub units: u64,
 }
 
 impl Whole {
-    // 2^62
-    pub const CEILING: u64 = 4_611_686_018_427_387_904;
+    pub const CEILING: u64 = 1 << 62;
 }
 
 impl Weight for Whole {
@@ -31,11 +30,11 @@ impl Weight for Whole {
     fn plus(&self, other: &Whole) -> Result<Whole, TooLarge> {
         match self.units.checked_add(other.units) {
             Some(units) if units <= Whole::CEILING => Ok(Whole { units }),
-            _ => Err(TooLarge {}),
+            _ => Err(TooLarge),
         }
     }
 
     fn at_most(&self, other: &Whole) -> bool {
-        self.units <= other.units
+        self <= other
     }
 }

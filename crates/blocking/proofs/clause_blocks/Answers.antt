@@ -1,19 +1,24 @@
-use Rattle.std.proofs.Common.{sym, ◌∙◌, arith}
-use Rattle.blocking.proofs.Denying.{marks_words, words_in, blocks_within, blocks_end, blocks_here, blocks_on}
+use Rattle.std.proofs.Common.{rules, tests, not, ◌||◌, sym, ap, ◌∙◌}
+use Rattle.std.specs.List.{list_any}
+use Rattle.std.proofs.lemmas.Iterator.{YieldsList-from_slice}
+use Rattle.std.proofs.lemmas.Iterator.Search.{any_from_yields_List}
+use Rattle.sheet.specs.Literals.{has}
+use Rattle.blocking.proofs.Denying.{within, blocks_within}
 use Rattle.blocking.proofs.clause_blocks.Goals as goal
 
-pub returns-then-denies_other : goal.returns-then-denies_other
-returns-then-denies_other c = λ lits marks.
+pub returns-then-not-has_literal : goal.returns-then-not-has_literal
+returns-then-not-has_literal c =
+    let row = c.args.row.now in
+    let lits = c.args.marked.now in
     let other = c.args.other.now in
-    blocks_here c.args.row.now lits other c.opposite-denial.result c.loop-y.y-index c.loop-y.denied (c.loop-y.invariant lits marks) c.loop-y-test.true (sym (c.denies_other.ensures lits marks) ∙ c.if-denies_other.true)
-    ∙ blocks_within c.args.row.now lits other c.args.w (omega arith) (marks_words marks) (words_in other (λ k. omega (arith, c.type_inv.other k))) c.opposite-denial.result c.opposite-denial.ensures
+    let lacks = sym (c.has_literal.ensures ∙ ap (λ v. has v other) c.opposite.ensures) ∙ c.if-not-has_literal.true in
+    ap not c.if-not-has_literal.true ∙ sym (blocks_within row lits other c.args.w ∙ ap (λ b. not b || list_any (within row lits other c.args.w) other) lacks)
 
-pub loop-y-preserved : goal.loop-y-preserved
-loop-y-preserved c = λ lits marks.
-    blocks_on c.args.row.now lits c.args.other.now c.opposite-denial.result c.loop-y.y-index c.loop-y.denied (c.loop-y.invariant lits marks) c.loop-y-test.true (sym (c.denies_other.ensures lits marks) ∙ c.if-denies_other.false)
-
-pub returns : goal.returns
-returns c = λ lits marks.
+pub returns-else-not-has_literal : goal.returns-else-not-has_literal
+returns-else-not-has_literal c =
+    let row = c.args.row.now in
+    let lits = c.args.marked.now in
     let other = c.args.other.now in
-    blocks_end c.args.row.now lits other c.opposite-denial.result c.loop-y.y-index c.loop-y.denied (c.loop-y.invariant lits marks) c.loop-y-test.false
-    ∙ blocks_within c.args.row.now lits other c.args.w (omega arith) (marks_words marks) (words_in other (λ k. omega (arith, c.type_inv.other k))) c.opposite-denial.result c.opposite-denial.ensures
+    let there = sym (c.has_literal.ensures ∙ ap (λ v. has v other) c.opposite.ensures) ∙ c.if-not-has_literal.false in
+    any_from_yields_List (within row lits other c.args.w) _ _ c.any.result c.any.ensures.ran (YieldsList-from_slice other (cc)) (λ x b q k. search (rules, tests))
+    ∙ sym (blocks_within row lits other c.args.w ∙ ap (λ b. not b || list_any (within row lits other c.args.w) other) there)

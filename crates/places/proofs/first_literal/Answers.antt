@@ -1,15 +1,10 @@
-use Rattle.std.proofs.Common.{sym, refl, ◌∙◌}
-use Rattle.places.proofs.Searching.{word_none, word_here, word_on}
+use Rattle.std.proofs.Common.{rules, tests}
+use Rattle.std.proofs.lemmas.Iterator.{YieldsList-from_slice}
+use Rattle.std.proofs.lemmas.Iterator.Search.{position_from_yields_List}
+use Rattle.places.proofs.Searching.{word_found}
 use Rattle.places.proofs.first_literal.Goals as goal
 
-pub loop-i-init : goal.loop-i-init
-loop-i-init g c = refl
-
-pub returns-then-passes : goal.returns-then-passes
-returns-then-passes g c = (c.loop-i-test.true, word_here _ c.args.lits.now c.loop-i.i c.loop-i.invariant c.loop-i-test.true (sym (c.passes.ensures c.args.lits.now c.requires.marked) ∙ c.if-passes.true))
-
-pub loop-i-preserved : goal.loop-i-preserved
-loop-i-preserved g c = word_on _ c.args.lits.now c.loop-i.i c.loop-i.invariant c.loop-i-test.true (sym (c.passes.ensures c.args.lits.now c.requires.marked) ∙ c.if-passes.false)
-
 pub returns : goal.returns
-returns g c = word_none _ c.args.lits.now c.loop-i.i c.loop-i.invariant c.loop-i-test.false
+returns g c =
+    word_found (g.T.Test.test c.args.test.now c.args.row.now c.args.clauses.now c.args.marked.now) c.args.lits.now c.position.result
+    (position_from_yields_List _ _ _ c.position.result c.position.ensures.ran (YieldsList-from_slice c.args.lits.now (cc)) (λ x b q k. search (rules, tests)))

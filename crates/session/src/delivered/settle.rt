@@ -17,7 +17,8 @@ impl Delivered {
         stack: &[u16],
         weights: &[W],
     ) -> Working
-        ensures same { (result.marks ≡ self.marks) × (result.counts ≡ self.counts) }
+        ensures marks { result.marks ≡ self.marks }
+        ensures counts { result.counts ≡ self.counts }
         ensures faithful { SettleFaithful W.Weight (lent sheet.now row.now stack.now weights.now self.marks self.counts) (lent sheet.now row.now stack.now weights.now result.marks result.counts) }
     {
         let Delivered { marks, counts } = self;

@@ -1,13 +1,11 @@
 // Open: a new sheet, with its items plain and nothing else in it.
-ghost use Rattle.std.specs.Prelude.{◌≡◌, ◌≤◌, ◌++◌, length, drop, replicate};
 ghost use Rattle.sheet.specs.Sheets.{lent};
-ghost use Rattle.meaning.specs.Calls.{plain_item};
 ghost use Rattle.session.specs.Opening.{Opened, OpenFaithful};
 
 use crate::gathering::Gathering;
 use sheet::buffers::{Counts, Marks};
 use sheet::refusal::Refusal;
-use sheet::row::{Item, Standing};
+use sheet::row::Item;
 use weight::Weight;
 
 const MOST_ITEMS: u64 = 2000;
@@ -29,7 +27,7 @@ pub fn open<W: Weight>(
     if row.len() < items {
         return Err(Refusal::RowTooShort(row.len()));
     }
-    make_plain(row, items);
+    row[..items].fill(Item::PLAIN);
     Ok(Gathering {
         marks: Marks { sheet: 0, stack: 0 },
         counts: Counts {
@@ -38,16 +36,4 @@ pub fn open<W: Weight>(
             softs: 0,
         },
     })
-}
-
-fn make_plain(row: &mut [Item], items: usize)
-    requires { items ≤ length row.old }
-    ensures { row.new ≡ replicate items plain_item ++ drop items row.old }
-{
-    for i in 0..items {
-        row[i] = Item {
-            standing: Standing::Plain,
-            ordinal: 0,
-        };
-    }
 }

@@ -17,7 +17,8 @@ impl Working {
         stack: &[u16],
         weights: &[W],
     ) -> Delivered
-        ensures same { (result.marks ≡ self.marks) × (result.counts ≡ self.counts) }
+        ensures marks { result.marks ≡ self.marks }
+        ensures counts { result.counts ≡ self.counts }
         ensures faithful { DeliverFaithful W.Weight (lent sheet.now row.now stack.now weights.now self.marks self.counts) (lent sheet.now row.now stack.now weights.now result.marks result.counts) }
     {
         Delivered::of(self.marks, self.counts)

@@ -1,5 +1,4 @@
 // Run: a rule, or any pile of rules, on a working sheet.
-ghost use Rattle.std.specs.Prelude.{◌≡◌};
 ghost use Rattle.rules.specs.Answering.{RunAnswered};
 ghost use Rattle.session.specs.Running.{RunFaithful};
 ghost use Rattle.sheet.specs.Sheets.{lent};
@@ -7,28 +6,37 @@ ghost use Rattle.sheet.specs.Sheets.{lent};
 use crate::working::Working;
 use meaning::report::Report;
 use rules::rule::Rule;
-use sheet::buffers::{Counts, Marks};
+use sheet::buffers::Desk;
 use sheet::refusal::Refusal;
 use sheet::row::Item;
 use weight::Weight;
 
-// What the rule answers, from these marks and counts on.
-fn answer<W: Weight, R: Rule<W>>(
-    rule: &R,
-    sheet: &mut [u16],
-    row: &mut [Item],
-    stack: &mut [u16],
-    weights: &[W],
-    marks: &mut Marks,
-    counts: Counts,
-    limit: u64,
-) -> Result<Report, Refusal>
-    ensures { RunAnswered W.Weight (R.Rule.runs rule.now W.Weight.Value W.Weight.kind) limit (lent sheet.old row.old stack.old weights.now marks.old counts) (lent sheet.new row.new stack.new weights.now marks.new counts) result }
-{
-    rule.run(sheet, row, stack, weights, marks, counts, limit)
-}
-
 impl Working {
+    // What the call answers. That it stays faithful follows from the answer alone, once for every way out, so it is said outside.
+    fn work<W: Weight, R: Rule<W>>(
+        &mut self,
+        rule: &R,
+        sheet: &mut [u16],
+        row: &mut [Item],
+        stack: &mut [u16],
+        weights: &[W],
+        limit: u64,
+    ) -> Result<Report, Refusal>
+        ensures { RunAnswered W.Weight (R.Rule.runs rule.now W.Weight.Value W.Weight.kind) limit (lent sheet.old row.old stack.old weights.now self.old.marks self.old.counts) (lent sheet.new row.new stack.new weights.now self.new.marks self.new.counts) result }
+    {
+        let mut desk = Desk {
+            sheet,
+            row,
+            stack,
+            weights,
+            marks: self.marks,
+            counts: self.counts,
+        };
+        let answer = rule.run(&mut desk, limit);
+        self.marks = desk.marks;
+        answer
+    }
+
     // Makes at most `limit` steps, and answers how many it made and why it ended.
     pub fn run<W: Weight, R: Rule<W>>(
         &mut self,
@@ -42,8 +50,6 @@ impl Working {
         ensures answer { RunAnswered W.Weight (R.Rule.runs rule.now W.Weight.Value W.Weight.kind) limit (lent sheet.old row.old stack.old weights.now self.old.marks self.old.counts) (lent sheet.new row.new stack.new weights.now self.new.marks self.new.counts) result }
         ensures faithful { RunFaithful W.Weight (lent sheet.old row.old stack.old weights.now self.old.marks self.old.counts) (lent sheet.new row.new stack.new weights.now self.new.marks self.new.counts) }
     {
-        let counts = self.counts;
-        let marks = &mut self.marks;
-        answer(rule, sheet, row, stack, weights, marks, counts, limit)
+        self.work(rule, sheet, row, stack, weights, limit)
     }
 }

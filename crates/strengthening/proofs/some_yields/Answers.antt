@@ -1,29 +1,17 @@
-use Rattle.std.proofs.Common.{take, sym, ap, ◌∙◌}
-use Rattle.sheet.specs.Clauses.{clauses}
+use Rattle.std.proofs.Common.{rules, tests, ap, ◌∙◌}
+use Rattle.std.proofs.lemmas.Iterator.Consumers.{YieldsList-from_first}
+use Rattle.std.proofs.lemmas.Iterator.Search.{any_from_yields_List}
+use Rattle.sheet.specs.Views.{clause_seen}
 use Rattle.steps.specs.Places.{some}
-use Rattle.places.proofs.Clausewise.{some_end, some_here, some_later}
+use Rattle.places.proofs.Clausewise.{some_is_any}
 use Rattle.strengthening.specs.Leaving.{yields_to, yielded}
 use Rattle.strengthening.proofs.some_yields.Goals as goal
 
-pub returns-then-yields : goal.returns-then-yields
-unfolding yielded
-returns-then-yields c = λ lits marks.
-    sym (some_here (yields_to lits c.opposite-denial.result) c.args.sheet.now c.loop-at.at c.args.fill _ c.read-from.ensures (sym (c.yields.ensures lits marks) ∙ c.if-yields.true))
-    ∙ c.loop-at.invariant.2 lits marks
-    ∙ ap (λ w. some (yields_to lits w) (clauses (take c.args.fill c.args.sheet.now))) c.opposite-denial.ensures
-
-pub loop-at-preserved : goal.loop-at-preserved
-loop-at-preserved c = (
-  c.read-from.ensures.fits,
-  c.read-from.ensures.rest,
-  λ lits marks.
-      sym (some_later (yields_to lits c.opposite-denial.result) c.args.sheet.now c.loop-at.at c.args.fill _ c.read-from.ensures (sym (c.yields.ensures lits marks) ∙ c.if-yields.false))
-      ∙ c.loop-at.invariant.2 lits marks,
-)
-
 pub returns : goal.returns
 unfolding yielded
-returns c = λ lits marks.
-    sym (some_end (yields_to lits c.opposite-denial.result) c.args.sheet.now c.loop-at.at c.args.fill c.loop-at-test.false)
-    ∙ c.loop-at.invariant.2 lits marks
-    ∙ ap (λ w. some (yields_to lits w) (clauses (take c.args.fill c.args.sheet.now))) c.opposite-denial.ensures
+returns c =
+    let cs = c.args.clauses.now in
+    let lits = c.args.marked.now in
+    any_from_yields_List (yields_to lits c.opposite-denial.result) _ _ _ c.any.ensures.ran (YieldsList-from_first clause_seen (λ ds. ds) cs c.iter.ensures.clauses) (λ x b q k. search (rules, tests))
+    ∙ some_is_any (yields_to lits c.opposite-denial.result) cs
+    ∙ ap (λ w. some (yields_to lits w) cs) c.opposite-denial.ensures

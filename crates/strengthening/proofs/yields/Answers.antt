@@ -1,12 +1,15 @@
-use Rattle.std.proofs.Common.{sym, ◌∙◌}
-use Rattle.strengthening.proofs.Yielding.{yields_end, yields_stray, yields_on}
+use Rattle.std.proofs.Common.{rules, tests, eqb, ◌&&◌, ◌||◌, sym, ap, ◌∙◌}
+use Rattle.std.proofs.lemmas.Iterator.{YieldsList-from_slice}
+use Rattle.std.proofs.lemmas.Iterator.Search.{all_from_yields_List}
+use Rattle.sheet.specs.Literals.{has}
+use Rattle.steps.specs.Rewriting.{inside, but}
+use Rattle.strengthening.proofs.Yielding.{all_stay}
 use Rattle.strengthening.proofs.yields.Goals as goal
 
-pub returns-then-strays : goal.returns-then-strays
-returns-then-strays c = λ lits marks. yields_stray lits c.args.other.now c.args.denial c.loop-x.x-index c.loop-x.denied (c.loop-x.invariant lits marks) c.loop-x-test.true (sym (c.strays.ensures lits marks) ∙ c.if-strays.true)
-
-pub loop-x-preserved : goal.loop-x-preserved
-loop-x-preserved c = λ lits marks. yields_on lits c.args.other.now c.args.denial c.loop-x.x-index c.loop-x.denied (c.loop-x.invariant lits marks) c.loop-x-test.true (sym (c.strays.ensures lits marks) ∙ c.if-strays.false)
-
-pub returns : goal.returns
-returns c = λ lits marks. yields_end lits c.args.other.now c.args.denial c.loop-x.x-index c.loop-x.denied (c.loop-x.invariant lits marks) c.loop-x-test.false
+pub returns-then-has_literal : goal.returns-then-has_literal
+returns-then-has_literal c =
+    let lits = c.args.marked.now in
+    let other = c.args.other.now in
+    all_from_yields_List (λ x. eqb x c.args.denial || has x lits) _ _ _ c.all.ensures.ran (YieldsList-from_slice other (cc)) (λ x b q k. search (rules, tests))
+    ∙ all_stay c.args.denial lits other
+    ∙ sym (ap (λ b. b && inside (but c.args.denial other) lits) (sym c.has_literal.ensures ∙ c.if-has_literal.true))

@@ -1,9 +1,7 @@
-use Rattle.std.proofs.Common.{◌≡◌, ◌-◌, ◌≤◌, length, drop}
+use Rattle.std.proofs.Common.{◌≡◌, drop}
+use Rattle.sheet.specs.Literals.{Rising}
 use Rattle.steps.specs.Rewriting.{inside}
 use Rattle.subsumption.proofs.is_inside.Given as goal
 
-abbrev pub invariant-loop-i : goal.invariant-loop-i
-invariant-loop-i l = (l.i ≤ length l.sub) × (l.j ≤ length l.sup) × (inside (drop l.i l.sub) (drop l.j l.sup) ≡ inside l.sub l.sup)
-
-abbrev pub decreases-loop-i : goal.decreases-loop-i
-decreases-loop-i l = length l.initial.sup - l.j
+abbrev pub invariant-loop-w : goal.invariant-loop-w
+invariant-loop-w l = Rising l.left × (inside l.left (drop l.w-index l.sup) ≡ inside l.sub l.sup)

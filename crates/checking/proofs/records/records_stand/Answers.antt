@@ -1,21 +1,13 @@
-use Rattle.std.proofs.Common.{◌≡◌, take, ap, ◌∙◌, arith}
-use Rattle.std.proofs.lemmas.Bool.Decides.{not_from_Decides}
-use Rattle.sheet.specs.Records.{records}
-use Rattle.sheet.proofs.Stacking.{records_nil}
-use Rattle.checking.proofs.Passing.{accepts_rest, rests_back, refuses_back}
+use Rattle.std.proofs.Common.{rules, tests}
+use Rattle.std.specs.List.{AllByRecursion}
+use Rattle.sheet.specs.Literals.{Literal}
+use Rattle.sheet.specs.Views.{record_seen}
+use Rattle.checking.proofs.Passing.{all_decides, turned_decides, YieldsList-from_last}
 use Rattle.checking.proofs.records.records_stand.Goals as goal
-
-pub returns-then-not-all_literals : goal.returns-then-not-all_literals
-returns-then-not-all_literals c = refuses_back _ _ _ _ _ c.loop-end.invariant.2 c.newest-from.ensures.last (not_from_Decides _ c.all_literals.ensures c.if-not-all_literals.true)
-
-pub loop-end-preserved : goal.loop-end-preserved
-loop-end-preserved c = (
-  omega arith,
-  c.newest-from.ensures.rest,
-  rests_back _ _ _ _ _ c.loop-end.invariant.2 c.newest-from.ensures.last (c.all_literals.ensures.0 c.if-not-all_literals.false),
-)
 
 pub returns : goal.returns
 returns c =
-    let none : c.loop-end.end ≡ 0 = omega arith in
-    accepts_rest _ _ _ c.loop-end.invariant.2 (ap (λ n. records (take n c.args.stack.now)) none ∙ records_nil)
+    turned_decides _ _ _
+    (all_decides (λ r. AllByRecursion (Literal c.args.items) r.lits) _ _ _ c.all.ensures.ran
+    (YieldsList-from_last record_seen (λ rs. rs) c.args.records.now c.iter.ensures.records)
+    (λ x b q k. search (rules, tests)))

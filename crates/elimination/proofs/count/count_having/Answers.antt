@@ -1,9 +1,10 @@
-use Rattle.std.proofs.Common.{length, ap, arith}
-use Rattle.sheet.proofs.Cursors.{clauses_end}
-use Rattle.steps.specs.Rewriting.{having}
+use Rattle.std.proofs.Common.{rules, tests}
+use Rattle.std.proofs.lemmas.Iterator.Consumers.{count_from_yields_List, YieldsList-from_filter, YieldsList-from_first}
+use Rattle.sheet.specs.Views.{clause_seen}
+use Rattle.steps.specs.Rewriting.{has_lit}
 use Rattle.elimination.proofs.count.count_having.Goals as goal
 
 pub returns : goal.returns
 returns c =
-    let end = ap (λ cs. length (having c.args.w cs)) (clauses_end c.args.sheet.now c.loop-at.at c.args.fill c.loop-at-test.false) in
-    record { count = omega (arith, c.loop-at.invariant.3); few = omega (arith, c.loop-at.invariant.0, c.loop-at.invariant.1) }
+    count_from_yields_List _ _ c.count.ensures.ran
+    (YieldsList-from_filter _ (has_lit c.args.w) (YieldsList-from_first clause_seen (λ cs. cs) c.args.clauses.now cc) c.filter.ensures.closure (λ x r q k. search (rules, tests)))

@@ -1,29 +1,26 @@
-use Rattle.std.proofs.Common.{refl, arith, rules}
+use Rattle.std.proofs.Common.{refl, ap, ◌∙◌, arith, rules}
+use Rattle.sheet.specs.Clauses.{clauses}
 use Rattle.elimination.specs.Eliminating.{Words}
-use Rattle.elimination.proofs.Laying.{all_laid, all_fits, all_made, wrote_at, pushed_at}
+use Rattle.elimination.proofs.Laying.{all_laid, all_fits, all_made, sheet_grown, stack_grown}
 use Rattle.elimination.proofs.step.eliminate.Goals as goal
 
-pub drop_item-undo-requires : goal.drop_item-undo-requires
-drop_item-undo-requires c =
+pub drop_item-undo-requires-clause-laid : goal.drop_item-undo-requires-clause-laid
+drop_item-undo-requires-clause-laid c =
     let b : Words = record { sheet = c.args.sheet.now; stack = c.args.stack.now; marks = c.args.marks.now } in
-    let wrote = wrote_at c.guard-undo.ensures.marks c.word_limit-room.ensures b.sheet c.append_all.new.sheet c.args.x c.in-Some.end c.in-Some.ensures.wrote in
-    let fits = wrote.cases.1.fits in
-    let long = c.append_all.auto.sheet in
-    record { fits = omega arith; laid = all_laid c.args.x b c.requires.laid c.requires.item c.append_all.new.sheet c.in-Some.end wrote }
+    let cut = c.split_at_mut-front.ensures in
+    let same = c.of-clauses.ensures.clauses ∙ ap clauses cut.front in
+    let wrote = sheet_grown c.args.x b c.guard-undo.result.marks.now c.guard-undo.ensures.marks c.of-clauses.result same c.in-Some.more c.append_all.new.free c.requires.sheet _ _ cut.front cut.back _ (omega arith) c.append_all.auto.free c.in-Some.ensures.wrote in
+    all_laid c.args.x b c.requires.laid c.requires.item _ _ wrote.0 wrote.1
 
-pub returns : goal.returns
-returns c =
+pub returns-clause-step : goal.returns-clause-step
+returns-clause-step c =
     let b : Words = record { sheet = c.args.sheet.now; stack = c.args.stack.now; marks = c.args.marks.now } in
-    let cur = c.append_all.new.sheet in
-    let same = c.guard-undo.ensures.marks in
-    let wrote = wrote_at same c.word_limit-room.ensures b.sheet cur c.args.x c.in-Some.end c.in-Some.ensures.wrote in
-    let pushed = pushed_at same c.word_limit-room-2.ensures b.stack c.push_all.new.stack cur c.args.x c.in-Some-push_all.top c.in-Some-push_all.ensures in
-    let dropped = c.drop_item-undo.ensures in
-    record {
-      clear = c.append_all.ensures.clear;
-      step = (
-        all_fits c.args.x b c.requires.laid c.requires.item cur c.in-Some.end wrote c.requires.stacked c.push_all.new.stack c.in-Some-push_all.top pushed,
-        all_made c.args.x b c.requires.laid c.requires.item cur c.in-Some.end wrote c.requires.stacked c.push_all.new.stack c.in-Some-push_all.top pushed
-            _ c.drop_item-undo.result (search rules) (omega (arith, c.append_all.auto.sheet, c.drop_item-undo.auto.sheet)) c.push_all.auto.stack refl dropped.shrinks dropped.laid dropped.kept,
-      );
-    }
+    let cut = c.split_at_mut-front.ensures in
+    let same = c.of-clauses.ensures.clauses ∙ ap clauses cut.front in
+    let wrote = sheet_grown c.args.x b c.guard-undo.result.marks.now c.guard-undo.ensures.marks c.of-clauses.result same c.in-Some.more c.append_all.new.free c.requires.sheet _ _ cut.front cut.back _ (omega arith) c.append_all.auto.free c.in-Some.ensures.wrote in
+    let pushed = stack_grown c.args.x b c.guard-undo.result.marks.now c.guard-undo.ensures.marks c.of-clauses.result same c.in-Some-push_all.more c.push_all.new.free c.requires.stack _ (omega arith) c.push_all.auto.free c.in-Some-push_all.ensures in
+    let dropped = c.drop_item-undo.ensures in (
+      all_fits c.args.x b c.requires.laid c.requires.item _ _ wrote.0 wrote.1 c.requires.stacked _ _ pushed,
+      all_made c.args.x b c.requires.laid c.requires.item _ _ wrote.0 wrote.1 c.requires.stacked _ _ pushed
+          _ c.drop_item-undo.result (search rules) (search rules) (search rules) refl dropped.shrinks dropped.laid dropped.kept,
+    )

@@ -1,11 +1,9 @@
-use Rattle.std.proofs.Common.{◌≤◌, take}
+use Rattle.std.proofs.Common.{length}
 use Rattle.sheet.specs.Records.{Stacked}
 use Rattle.sheet.proofs.record.is_stacked.Given as goal
 
-abbrev pub invariant-loop-end : goal.invariant-loop-end
-invariant-loop-end l = (l.end ≤ l.fill)
-    × (Stacked (take l.end l.stack) → Stacked (take l.fill l.stack))
-    × (Stacked (take l.fill l.stack) → Stacked (take l.end l.stack))
+abbrev pub invariant-loop-rest : goal.invariant-loop-rest
+invariant-loop-rest l = (Stacked l.rest → Stacked l.words) × (Stacked l.words → Stacked l.rest)
 
-abbrev pub decreases-loop-end : goal.decreases-loop-end
-decreases-loop-end l = l.end
+abbrev pub decreases-loop-rest : goal.decreases-loop-rest
+decreases-loop-rest l = length l.rest

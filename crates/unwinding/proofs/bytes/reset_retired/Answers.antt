@@ -1,21 +1,24 @@
-use Rattle.std.proofs.Common.{ℕ, ◌+◌, List, sym, ◌∙◌, subst}
-use Rattle.unwinding.proofs.Resetting.{Resetting, resetting_none, resetting_live, resetting_retired, resetting_all}
+use Rattle.std.proofs.Common.{◌≡◌, ℕ, zero, suc, ◌<◌, ◌≤◌, cond, List, length, get_or, take, refl, inl, inr, arith}
+use mathlib.Core.Path.{fun_ext}
+use Rattle.std.proofs.lemmas.Bool.{cases_lt}
+use Rattle.std.proofs.lemmas.Grind.{common_steps}
+use Rattle.sheet.specs.declared.row.Item.{Item}
+use Rattle.sheet.specs.Rows.{absent, is_live}
+use Rattle.meaning.specs.Unwinding.{reset}
+use Rattle.unwinding.specs.Bytes.{values_of}
 use Rattle.unwinding.proofs.bytes.reset_retired.Goals as goal
-use Rattle.unwinding.proofs.bytes.reset_retired.Goals.{then-not-is_live, else-not-is_live}
 
-pub loop-i-init : goal.loop-i-init
-loop-i-init c = resetting_none c.args.row.now c.args.answer.now c.requires.bits
+-- the bytes sent, and what they have become
+module _ (row : List Item) (sent answer : List ℕ) (rows : length sent ≤ length row) (long : length answer ≡ length sent) where
+  reset_all : ((k : ℕ) → k < length sent → get_or answer k 0 ≡ cond (is_live (get_or row k absent).standing) (get_or sent k 0) 0) → values_of answer ≡ reset (take (length sent) row) (values_of sent)
+  reset_all each = fun_ext same
+    where
+      same : (n : ℕ) → values_of answer n ≡ reset (take (length sent) row) (values_of sent) n
+      same zero = refl
+      same (suc k) = elim (cases_lt k (length sent)) [
+        | inl inside ↦ let e = each k inside in grind (arith, common_steps)
+        | inr past ↦ grind (arith, common_steps)
+      ]
 
-pub loop-i-preserved : goal.loop-i-preserved
-loop-i-preserved c =
-    let Came : List ℕ → Type 0 = λ answer. Resetting c.args.row.now c.args.answer.now answer (c.loop-i.i + 1) in
-    elim c.if-not-is_live.branch [
-      | then-not-is_live w ↦ subst Came (sym w.answer-is) (resetting_retired c.loop-i.invariant c.requires.row c.loop-i-test.true _ (sym c.is_live.ensures ∙ w.if-not-is_live.true))
-      | else-not-is_live w ↦ subst Came (sym w.answer-is) (resetting_live c.loop-i.invariant c.requires.row c.loop-i-test.true _ (sym c.is_live.ensures ∙ w.if-not-is_live.false))
-    ]
-
-pub returns : goal.returns
-returns c = record {
-  reset = resetting_all c.loop-i.invariant c.requires.row c.loop-i-test.false;
-  bits = c.loop-i.invariant.bits;
-}
+pub returns-clause-reset : goal.returns-clause-reset
+returns-clause-reset c = reset_all _ _ c.loop-i.answer c.requires.row c.loop-i.auto.answer (λ k inside. c.loop-i.invariant.before k (omega arith))

@@ -1,15 +1,10 @@
-use Rattle.std.proofs.Common.{◌≡◌, ◌-◌, ◌≤◌, take}
-use Rattle.std.specs.List.{between}
-use Rattle.sheet.specs.Clauses.{Laid, clauses}
-use Rattle.unwinding.specs.Bytes.{first_from, first_unmet, is_unmet, values_of}
+use Rattle.std.proofs.Common.{◌≡◌}
+use Rattle.std.specs.List.{position_from}
+use Rattle.std.specs.Iterator.Adapters.{enumerate_count, enumerate_source}
+use Rattle.sheet.specs.Clauses.{clauses}
+use Rattle.unwinding.specs.Bytes.{first_unmet, is_unmet, values_of}
 use Rattle.unwinding.proofs.clauses.first_unmet.Given as goal
 
-abbrev pub invariant-loop-at : goal.invariant-loop-at
-invariant-loop-at l =
-    (l.at ≤ l.fill)
-    × (l.number ≤ l.at)
-    × Laid (between l.at l.fill l.sheet)
-    × (first_from l.number (is_unmet (values_of l.answer)) (clauses (between l.at l.fill l.sheet)) ≡ first_unmet (values_of l.answer) (clauses (take l.fill l.sheet)))
-
-abbrev pub decreases-loop-at : goal.decreases-loop-at
-decreases-loop-at l = l.fill - l.at
+abbrev pub invariant-loop-number : goal.invariant-loop-number
+invariant-loop-number l =
+    position_from (is_unmet (values_of l.answer)) (enumerate_count l.number-iterator) (enumerate_source l.number-iterator) ≡ first_unmet (values_of l.answer) (clauses l.sheet)

@@ -3,8 +3,5 @@ use Rattle.sheet.specs.Sheets.{lent}
 use Rattle.session.proofs.Delivers.{settle_faithful}
 use Rattle.session.proofs.delivered.Delivered.settle.Goals as goal
 
-pub returns : goal.returns
-returns g c =
-    let left = lent c.args.sheet.now c.args.row.now c.args.stack.now c.args.weights.now in
-    let same = c.of.ensures in
-    record { same = same; faithful = settle_faithful g.W.Weight g.met.W.Weight.lawful _ _ (ap₂ left same.0 same.1) }
+pub returns-clause-faithful : goal.returns-clause-faithful
+returns-clause-faithful g c = settle_faithful g.W.Weight g.met.W.Weight.lawful _ _ (ap₂ (lent c.args.sheet.now c.args.row.now c.args.stack.now c.args.weights.now) c.of.ensures.marks c.of.ensures.counts)

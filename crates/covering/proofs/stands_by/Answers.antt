@@ -1,6 +1,0 @@
-use Rattle.std.proofs.Common.{rules}
-use Rattle.sheet.proofs.Cursors.{clauses_end}
-use Rattle.covering.proofs.stands_by.Goals as goal
-
-pub returns : goal.returns
-returns c = search (rules, clauses_end)
