@@ -2,8 +2,18 @@
 #![tactic(auto)]
 
 #[cfg(test)]
+mod blocked_clauses;
+#[cfg(test)]
+mod covered_labels;
+#[cfg(test)]
 mod desk;
+#[cfg(test)]
+mod eliminated_items;
 #[cfg(test)]
 mod piles;
 #[cfg(test)]
+mod resolved_literals;
+#[cfg(test)]
 mod subsumed_clauses;
+#[cfg(test)]
+mod units;
