@@ -36,7 +36,7 @@ fn stands_by(clauses: &Clauses<'_>, l: u16, m: u16) -> bool
 
 // What a search for labels looks at.
 #[derive(Drop)]
-pub struct Labels<'a, W> {
+pub(crate) struct Labels<'a, W> {
     pub clauses: Clauses<'a>,
     pub row: &'a [Item],
     pub weights: &'a [W],
@@ -52,7 +52,7 @@ impl<'a, W: Weight> Labels<'a, W> {
     ghost use Rattle.sheet.specs.declared.buffers.Phase.TheVariants.{Working as at_work};
 
     // Those in buffers that hold together.
-    pub fn of(buffers: Buffers<'a, W>) -> Labels<'a, W>
+    pub(crate) fn of(buffers: Buffers<'a, W>) -> Labels<'a, W>
         requires { HoldsTogether W.Weight at_work (lent_in buffers) }
         ensures { in_sight W.Weight result ≡ sighted W.Weight (lent_in buffers.entry) }
     {
@@ -108,7 +108,7 @@ impl<'a, W: Weight> Labels<'a, W> {
     }
 
     // The lowest live label that another covers, looked for from one on below which there is none.
-    pub fn first_covered(&self, from: u16) -> Option<u16>
+    pub(crate) fn first_covered(&self, from: u16) -> Option<u16>
         requires from { 1 ≤ from }
         requires none { NoneBelow (is_covered W.Weight.kind (in_sight W.Weight self.now)) from }
         ensures { result ≡ lowest_item (is_covered W.Weight.kind (in_sight W.Weight self.now)) 1 (named (length self.now.row.now)) }
