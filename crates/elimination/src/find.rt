@@ -38,7 +38,6 @@ fn may_go(clauses: &Clauses<'_>, row: &[Item], x: u16, marked: &mut Marked) -> b
 pub(crate) fn first_to_go<W>(lent: Buffers<'_, W>, marked: &mut Marked) -> Option<u16>
     requires sheet { Fits lent.marks.sheet lent.sheet.now }
     requires laid { Laid (take lent.marks.sheet lent.sheet.now) }
-    requires row { lent.counts.items ≤ length lent.row.now }
     requires clear { marked.old ≡ [] }
     ensures clear { marked.new ≡ [] }
     ensures lowest { result ≡ lowest_to_go (lent_in lent.entry) }

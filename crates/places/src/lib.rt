@@ -73,12 +73,12 @@ fn located(at: usize, place: Place, i: usize) -> Found
     Found { at, place, literal }
 }
 
-// The first place that passes.
+// The first place that passes. Not inlined: its table would lie on the stack beside that of the check that a run begins with.
+#[inline(never)]
 #[tactic(auto, using(crate::proofs::Searching::searching_inside, crate::proofs::Searching::searching_done))]
 pub fn first_place<T: Test, W>(test: &T, lent: Buffers<'_, W>) -> Option<Found>
     requires fits { lent.marks.sheet ≤ length lent.sheet.now }
     requires laid { Laid (take lent.marks.sheet lent.sheet.now) }
-    requires row { lent.counts.items ≤ length lent.row.now }
     ensures { FoundIn (T.Test.test test.now) (lent_in lent.entry) result }
 {
     let sheet = lent.sheet;

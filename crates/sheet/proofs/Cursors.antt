@@ -5,12 +5,15 @@ use Rattle.sheet.specs.declared.clause.Place.{Place}
 use Rattle.sheet.specs.Clauses.{Laid, clauses}
 use Rattle.sheet.specs.ClauseSteps.{Step, placed}
 use Rattle.sheet.proofs.Cuts.{between_end, take_parts}
-use Rattle.sheet.proofs.Laying.{clauses_append, clauses_nil, clauses_one, laid_append, laid_words}
+use Rattle.sheet.proofs.Laying.{clauses_append, clauses_nil, clauses_one, laid_append, laid_behind, laid_words}
 
 -- a boundary parts laid words
 module _ (s : List ℕ) (at fill : ℕ) (order : at ≤ fill) (front : Laid (take at s)) where
   pub laid_parts : Laid (between at fill s) → Laid (take fill s)
   laid_parts back = rw (take_parts s at fill order) (laid_append (take at s) (between at fill s) front back)
+
+  pub laid_rest : Laid (take fill s) → Laid (between at fill s)
+  laid_rest whole = laid_behind (take at s) (between at fill s) front (rw (take_parts s at fill order) at whole)
 
   pub clauses_parts : clauses (take fill s) ≡ clauses (take at s) ++ clauses (between at fill s)
   clauses_parts = ap clauses (take_parts s at fill order) ∙ clauses_append (take at s) (between at fill s) front

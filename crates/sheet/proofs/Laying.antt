@@ -1,9 +1,13 @@
 -- Words of clauses: reading back what was written, and words laid end to end. Assumes nothing.
 use Rattle.std.proofs.Common.{◌≡◌, ℕ, zero, suc, ◌+◌, ◌*◌, ◌/◌, ◌%◌, ◌<◌, ◌≤◌, List, [], ◌∷◌, ◌++◌, length, get_or, take, drop, sym, refl, ap, ◌∙◌, arith}
 use Rattle.std.specs.List.{AllByRecursion}
-use Rattle.std.proofs.lemmas.List.{append_assoc, append-nil, drop_at, get_or-append-add, get_or_append_left, length-append, length-drop, take_at}
+use Rattle.std.proofs.lemmas.List.{append_assoc, append_cancel_left, append-nil, drop_at, get_or-append-add, get_or_append_left, length-append, length-drop, take_at}
 use Rattle.std.proofs.ByRecursion.{All-append}
 use Rattle.sheet.specs.Clauses.{Clause, Tag, Hard, Soft, Working, kind_of, ordinal_of, clause_words, encode, tag_of, first_clause, behind, clauses_n, clauses, Valid, Laid}
+
+all_right : {X : Type 0} (P : X → Type 0) (xs ys : List X) → AllByRecursion P (xs ++ ys) → AllByRecursion P ys
+all_right P [] ys all = all
+all_right P (x ∷ xs) ys all = all_right P xs ys all.1
 
 pub same_clause : (c d : Clause) → c.tag ≡ d.tag → c.lits ≡ d.lits → c ≡ d
 same_clause c d tags lits = ap (λ t. record { tag = t; lits = c.lits }) tags ∙ ap (λ ls. record { tag = d.tag; lits = ls }) lits
@@ -150,6 +154,14 @@ unfolding Laid
 laid_append xs ys front back = (
   encode_read xs ys front ∙ ap (λ ws. xs ++ ws) back.0,
   rw (clauses_append xs ys front) (All-append Valid (clauses xs) (clauses ys) front.1 back.1),
+)
+
+-- behind laid words that are a front of laid words, the rest is laid
+pub laid_behind : (xs ys : List ℕ) → Laid xs → Laid (xs ++ ys) → Laid ys
+unfolding Laid
+laid_behind xs ys front whole = (
+  append_cancel_left xs (encode (clauses ys)) ys (sym (encode_read xs ys front) ∙ whole.0),
+  all_right Valid (clauses xs) (clauses ys) (rw (clauses_append xs ys front) at whole.1),
 )
 
 -- Laid words that are not empty begin with a clause.

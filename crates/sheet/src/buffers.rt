@@ -55,12 +55,11 @@ impl<'a, W> Buffers<'a, W> {
         Clauses::of(&self.sheet[..self.marks.sheet])
     }
 
-    // The items in use.
+    // The items in use: all of a row that does not reach them.
     pub fn items(&self) -> &'a [Item]
-        requires { self.now.counts.items ≤ length self.now.row.now }
         ensures { result.now ≡ used_row (lent_in self.now) }
     {
-        &self.row[..self.counts.items]
+        self.row.get(..self.counts.items).unwrap_or(self.row)
     }
 }
 

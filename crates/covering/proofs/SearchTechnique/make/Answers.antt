@@ -1,4 +1,4 @@
-use Rattle.std.proofs.Common.{refl, ap, ◌∙◌, arith}
+use Rattle.std.proofs.Common.{refl, ap, ◌∙◌, arith, rules}
 use Rattle.sheet.specs.Lending.{lent_on}
 use Rattle.sheet.specs.Sheets.{used_clauses}
 use Rattle.sheet.specs.declared.row.Standing.TheVariants.{Covered}
@@ -42,5 +42,5 @@ returns g c =
         label_follows m b together l found sheet _ fill long made.shrinks made.laid rewritten written,
       );
       ready = λ _. (omega arith, label_onward m b together l found sheet _ fill long made.shrinks made.laid rewritten written);
-      loans = record { sheet = refl; row = refl; stack = refl; weights = refl; counts = refl };
+      loans = record { sheet = refl; row = refl; stack = refl; sheet_length = search rules; row_length = search rules; stack_length = refl; weights = refl; counts = refl };
     }
