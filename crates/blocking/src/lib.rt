@@ -49,7 +49,8 @@ fn clause_blocks(row: &[Item], marked: &Marked, w: u16, other: &[u16]) -> bool
     !has_literal(other, opposite(w)) || other.iter().any(|y| denies_other(row, marked, w, *y))
 }
 
-// Whether each clause does.
+// Whether each clause does. Not inlined: its loop over the clauses then has the registers to itself.
+#[inline(never)]
 fn all_block(row: &[Item], clauses: &Clauses<'_>, marked: &Marked, w: u16) -> bool
     ensures { result ≡ all_block row.now clauses.now marked.now w }
 {

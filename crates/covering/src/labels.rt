@@ -27,7 +27,8 @@ fn has_both(lits: &[u16], l: u16, m: u16) -> bool
     !has_literal(lits, l) || has_literal(lits, m)
 }
 
-// Whether m stands in every clause with l.
+// Whether m stands in every clause with l. Not inlined: its loop over the clauses then has the registers to itself.
+#[inline(never)]
 fn stands_by(clauses: &Clauses<'_>, l: u16, m: u16) -> bool
     ensures { result ≡ every (stands l m) clauses.now }
 {

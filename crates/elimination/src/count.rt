@@ -10,7 +10,8 @@ use marking::Marked;
 use sheet::clauses::Clauses;
 use sheet::literal::{has_literal, opposite};
 
-// How many clauses have the literal `w`.
+// How many clauses have the literal `w`. Not inlined: its loop over the clauses then has the registers to itself.
+#[inline(never)]
 fn count_having(clauses: &Clauses<'_>, w: u16) -> usize
     requires few { length clauses.now ≤ 32768 }
     ensures { result ≡ length (having w clauses.now) }
@@ -22,6 +23,8 @@ fn count_having(clauses: &Clauses<'_>, w: u16) -> usize
 }
 
 // What is left of `most` after one for each resolvent on `x` of the marked clause, or None where they are more.
+// Not inlined: its loop over the clauses then has the registers to itself.
+#[inline(never)]
 fn spend(clauses: &Clauses<'_>, x: u16, marked: &Marked, most: usize) -> Option<usize>
     ensures { MatchOption result (most < length (resolvents_in x (working marked.now) clauses.now)) (λ m. m + length (resolvents_in x (working marked.now) clauses.now) ≡ most) }
 {

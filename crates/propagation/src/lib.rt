@@ -37,7 +37,8 @@ fn unit(lits: &[u16]) -> Option<u16>
     }
 }
 
-// The literal of the first clause that has no other.
+// The literal of the first clause that has no other. Not inlined: its loop over the clauses then has the registers to itself.
+#[inline(never)]
 #[tactic(auto, using(crate::proofs::Units::unit_rest))]
 fn first_unit(clauses: &Clauses<'_>) -> Option<u16>
     ensures { result ≡ first_unit clauses.now }

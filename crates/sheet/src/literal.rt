@@ -18,12 +18,34 @@ pub fn is_denied(w: u16) -> bool
     w >= SIGN
 }
 
-// Whether `w` is one of the literals.
+// Fewer literals than these are looked at one by one, where they stand: the library's search of a slice looks at many at once, but is a call.
+const MANY: usize = 16;
+
+#[inline(always)]
+fn is_one_of_few(lits: &[u16], w: u16) -> bool
+    ensures { result ≡ has w lits.now }
+{
+    lits.iter().any(|x| *x == w)
+}
+
+#[inline(never)]
 #[tactic(auto, using(crate::proofs::Members::has_is_any))]
-pub fn has_literal(lits: &[u16], w: u16) -> bool
+fn is_one_of_many(lits: &[u16], w: u16) -> bool
     ensures { result ≡ has w lits.now }
 {
     lits.contains(&w)
+}
+
+// Whether `w` is one of the literals.
+#[inline(always)]
+pub fn has_literal(lits: &[u16], w: u16) -> bool
+    ensures { result ≡ has w lits.now }
+{
+    if lits.len() < MANY {
+        is_one_of_few(lits, w)
+    } else {
+        is_one_of_many(lits, w)
+    }
 }
 
 // The same item with the other sign.

@@ -37,14 +37,15 @@ fn stays(marked: &Marked, denial: u16, x: u16) -> bool
     x == denial || marked.has(x)
 }
 
-// Whether a clause with the literals `other` has the denial, and otherwise only marked literals.
+// Whether a clause with the literals `other` has the denial, and otherwise only marked literals. Most clauses have another soon, and are left there.
 fn yields(marked: &Marked, denial: u16, other: &[u16]) -> bool
     ensures { result ≡ yields_to marked.now denial (record { tag = Working; lits = other.now }) }
 {
-    has_literal(other, denial) && other.iter().all(|x| stays(marked, denial, *x))
+    other.iter().all(|x| stays(marked, denial, *x)) && has_literal(other, denial)
 }
 
-// Whether one of the clauses does, with the denial of `w`.
+// Whether one of the clauses does, with the denial of `w`. Not inlined: its loop over the clauses then has the registers to itself.
+#[inline(never)]
 fn some_yields(clauses: &Clauses<'_>, marked: &Marked, w: u16) -> bool
     ensures { result ≡ yielded clauses.now marked.now w }
 {
