@@ -144,12 +144,14 @@ fn show_labels(rt: &HostRuntime, working: &Working, desk: &Desk) -> io::Result<(
     show_closed(rt, working.words(), working.items())
 }
 
+// A line is one write.
 fn show_label(rt: &HostRuntime, number: usize, text: &str, label: Option<usize>) -> io::Result<()> {
-    print!(rt; "  {number}  {text:<29}  ")?;
     match label {
-        Some(label) if label as u64 <= ITEMS => println!(rt; "its own item, {label}"),
-        Some(label) => println!(rt; "a fresh label, {label}"),
-        None => rt.println("no label"),
+        Some(label) if label as u64 <= ITEMS => {
+            println!(rt; "  {number}  {text:<29}  its own item, {label}")
+        }
+        Some(label) => println!(rt; "  {number}  {text:<29}  a fresh label, {label}"),
+        None => println!(rt; "  {number}  {text:<29}  no label"),
     }
 }
 
