@@ -2,7 +2,7 @@
 use Rattle.std.proofs.Common.{◌≡◌, ℕ, zero, suc, ◌+◌, ◌<◌, ◌≤◌, Bool, true, false, cond, not, ◌&&◌, ◌||◌, eqb, List, [], ◌∷◌, ◌++◌, length, get_or, take, set, replicate, sym, refl, ap, ap₂, ◌∙◌, inl, inr, arith}
 use Rattle.std.specs.List.{AllByRecursion}
 use Rattle.std.proofs.lemmas.List.{get_or-set_same, get_or-set_other, take_more}
-use Rattle.std.proofs.lemmas.Bool.{cases_eq, cond-true, eq-eqb, ne_eqb, or_left, or_right}
+use Rattle.std.proofs.lemmas.Bool.{both_ways, cases_eq, cond-true, eq-eqb, ne_eqb, or_left, or_right}
 use Rattle.std.proofs.lemmas.Bool.Decides.{nat_tests}
 use Rattle.std.proofs.Math.Bool.{and-or_distrib_right, or-false}
 use Rattle.sheet.specs.Literals.{Rising, has, opposite}
@@ -76,12 +76,17 @@ module _ (old new : List Bool) (before lits : List ℕ) (is : flagged old ≡ be
       but false true = refl
       but false false = refl
 
-  pub none_marked : ((w : ℕ) → has w before ≡ has w lits) → flagged new ≡ []
-  none_marked all = flagged_is new [] tt (λ w. unset w ∙ ap (cond (has w lits) false) (sym (has_flagged w old) ∙ ap (has w) is ∙ all w) ∙ none (has w lits))
-    where
-      none : (b : Bool) → cond b false b ≡ false
-      none true = refl
-      none false = refl
+-- nothing is left of a list when its members are taken away
+nothing : (ws : List ℕ) → ((w : ℕ) → has w ws ≡ false) → ws ≡ []
+nothing [] none = refl
+nothing (w ∷ ws) none = absurd (both_ways (has w (w ∷ ws)) (none w) (or_left (eqb w w) (has w ws) (eq-eqb w w refl)))
+
+pub none_left : (before after lits : List ℕ) → ((w : ℕ) → has w after ≡ (has w before && not (has w lits))) → ((w : ℕ) → has w before ≡ has w lits) → after ≡ []
+none_left before after lits taken all = nothing after (λ w. taken w ∙ ap (λ b. b && not (has w lits)) (all w) ∙ never (has w lits))
+  where
+    never : (b : Bool) → (b && not b) ≡ false
+    never true = refl
+    never false = refl
 
 -- Flags that are set one by one.
 

@@ -72,12 +72,20 @@ impl Marked {
         set_all(&mut self.table, lits, true);
     }
 
-    // Takes the marks of these literals away again.
+    // Takes flags away. Apart from `unmark`, which says what is left besides: that follows from what this says.
     #[tactic(auto, using(crate::proofs::Flags::has_unmarked))]
+    fn clear(&mut self, lits: &[u16])
+        ensures { (w : ℕ) → among w self.new ≡ (among w self.old && not (among w lits.now)) }
+    {
+        set_all(&mut self.table, lits, false);
+    }
+
+    // Takes the marks of these literals away again.
+    #[tactic(auto, using(crate::proofs::Flags::none_left))]
     pub fn unmark(&mut self, lits: &[u16])
         ensures members { (w : ℕ) → among w self.new ≡ (among w self.old && not (among w lits.now)) }
         ensures none { ((w : ℕ) → among w self.old ≡ among w lits.now) → self.new ≡ [] }
     {
-        set_all(&mut self.table, lits, false);
+        self.clear(lits);
     }
 }

@@ -1,5 +1,5 @@
 -- Whether a literal may leave its clause is asked of which literals the clause has. Assumes nothing.
-use Rattle.std.proofs.Common.{◌≡◌, ℕ, Bool, ◌&&◌, List, ap}
+use Rattle.std.proofs.Common.{◌≡◌, ℕ, ◌&&◌, List, ap}
 use Rattle.sheet.specs.declared.row.Item.{Item}
 use Rattle.sheet.specs.Literals.{opposite, has}
 use Rattle.sheet.specs.Clauses.{Clause}

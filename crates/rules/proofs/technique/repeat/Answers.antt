@@ -17,7 +17,8 @@ loop-place-init g c = (stepping_none g.W.Weight g.met.W.Weight.lawful _ _ g.met.
 pub returns-then-steps-limit-clause-answer : goal.returns-then-steps-limit-clause-answer
 returns-then-steps-limit-clause-answer g c =
     let place = c.in-Some.ensures.1 in
-    stepping_limit g.W.Weight g.met.W.Weight.lawful _ _ g.met.T.Technique.keeps c.loop-place.invariant.0 place.0 place.1 c.if-steps-limit.true
+    let spent = c.loop-place.invariant.0.turning.spent in
+    stepping_limit g.W.Weight g.met.W.Weight.lawful _ _ g.met.T.Technique.keeps c.loop-place.invariant.0 place.0 place.1 (omega (arith, c.if-steps-limit.true))
 
 pub returns-then-not-make-clause-answer : goal.returns-then-not-make-clause-answer
 returns-then-not-make-clause-answer g c =
