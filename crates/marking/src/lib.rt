@@ -72,7 +72,7 @@ impl Marked {
         set_all(&mut self.table, lits, true);
     }
 
-    // Takes flags away. Apart from `unmark`, which says what is left besides: that follows from what this says.
+    // Takes the flags of these literals away. That nothing may be left follows from this, and `unmark` says it.
     #[tactic(auto, using(crate::proofs::Flags::has_unmarked))]
     fn clear(&mut self, lits: &[u16])
         ensures { (w : ℕ) → among w self.new ≡ (among w self.old && not (among w lits.now)) }

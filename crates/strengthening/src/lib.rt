@@ -37,7 +37,8 @@ fn stays(marked: &Marked, denial: u16, x: u16) -> bool
     x == denial || marked.has(x)
 }
 
-// Whether a clause with the literals `other` has the denial, and otherwise only marked literals. Most clauses have another soon, and are left there.
+// Whether a clause with the literals `other` has the denial, and otherwise only marked literals. Most clauses soon show a literal that is neither,
+// so that is asked first.
 fn yields(marked: &Marked, denial: u16, other: &[u16]) -> bool
     ensures { result ≡ yields_to marked.now denial (record { tag = Working; lits = other.now }) }
 {
